@@ -1,0 +1,160 @@
+-- The worked session of 01 "A session", the edges of "Marked for proof" and of 01's refusals, and the order
+-- of the refusals.
+-- In order: session-holds, edges-hold, order-holds.
+-- Assumes nothing.
+use mathlib.Core.Path.{_≡_, refl}
+use mathlib.Core.List.{List, [], _∷_, _++_, map}
+use Prim.Native.Nat.{ℕ, zero, suc, _-_, _%_}
+use lib.ListN.{replicate, set}
+use Rattle.lists.specs.Lists.{over}
+use Rattle.rules.specs.Limits.{lastEpoch, lastTicket}
+use Rattle.rules.specs.Manager.{readersOf, withClock, withLse, withReaders}
+use Rattle.rules.specs.Store.{Store, managerOf, withManager}
+use Rattle.rules.specs.Step.{Call, create, begin, append, clear, commit, rollback, beginRo, endRo, scan}
+use Rattle.rules.specs.Step.{advanceLse, purge, run}
+use Rattle.rules.specs.declared.Reader.{Reader}
+use Rattle.rules.specs.declared.Reader.the-variants.{Rw, Ro}
+use Rattle.rules.proofs.Look.{made, Look, linesOf, bytesTo, entriesIn, Case, observed}
+
+-- a line that is only a number, and a line of 0 and a value
+only : ℕ → List ℕ
+only n = n ∷ []
+
+ok : ℕ → List ℕ
+ok v = 0 ∷ v ∷ []
+
+case : Store → List Call → Look → List (List ℕ) → Case
+case st cs l e = record { start = st; calls = cs; look = l; expected = e }
+
+look : Reader → Call
+look r = scan r 0 (replicate 64 0)
+
+-- ---- 01 "A session"
+
+session : List Call
+session =
+    begin ∷ append 1 0 (10 ∷ 11 ∷ []) ∷ begin ∷ append 2 0 (20 ∷ []) ∷ commit 1 ∷ beginRo 0 ∷ clear 2 0 ∷ look (Rw
+        2) ∷ commit 2
+    ∷ look (Ro 1) ∷ beginRo 0 ∷ look (Ro 2) ∷ advanceLse 2 ∷ endRo 1 ∷ advanceLse 0 ∷ purge 0 ∷ append 2 0 (5 ∷ [])
+        ∷ []
+
+pub sessionCase : Case
+sessionCase =
+    case (made 1) [] (linesOf session)
+    (ok 1 ∷ ok 2 ∷ ok 2 ∷ ok 3 ∷ ok 1 ∷ ok 1 ∷ ok 3 ∷ (0 ∷ 20 ∷ []) ∷ ok 2
+    ∷ (0 ∷ 10 ∷ 11 ∷ []) ∷ ok 2 ∷ only 0 ∷ only 10 ∷ ok 1 ∷ ok 2 ∷ ok 1 ∷ only 2 ∷ [])
+
+pub session-holds : observed sessionCase ≡ sessionCase .expected
+unfolding observed sessionCase session case look ok only
+session-holds = refl
+
+-- ---- edges
+
+-- transactions 1 and 2 in turn, n entries in all
+turns : ℕ → List Call
+turns zero = []
+turns (suc n) = append (suc (n % 2)) 0 (n ∷ []) ∷ turns n
+
+-- two rows of 1, then a delete of 2 that ends at row 3; a snapshot at 1 is open
+gap : Store
+gap =
+    let st = run (begin ∷ begin ∷ commit 1 ∷ beginRo 0 ∷ commit 2 ∷ []) (made 1) in record {
+      state = record { manager = managerOf st; partitions = record {
+        at = set (st .state .partitions .at) 0 (record { area = 0; rows = 3; entries = 2 }); spare = 8 } };
+      rows = st .rows;
+      entries = over 0 (record { epoch = 1; end = 2; mark = 0 } ∷ record { epoch = 2; end = 3; mark = 1 } ∷ []) (st
+          .entries) }
+
+pub edges : List Case
+edges =
+    -- 512 rows fit, the 513th does not, and a batch is added whole or not at all
+    case (made 1) (begin ∷ append 1 0 (replicate 511 7) ∷ [])
+      (linesOf (append 1 0 (7 ∷ 7 ∷ []) ∷ append 1 0 (7 ∷ []) ∷ append 1 0 (7 ∷ []) ∷ [])) (only 8 ∷ ok 512 ∷ only
+          8 ∷ [])
+    -- the 33rd transaction, read-write (32 open or waiting) and read-only
+    ∷ case (made 1) (replicate 32 begin ++ commit 2 ∷ []) (linesOf (begin ∷ commit 1 ∷ begin ∷ [])) (only 7 ∷ ok 2
+        ∷ ok 33 ∷ [])
+    ∷ case (made 1) (replicate 32 (beginRo 0)) (linesOf (beginRo 0 ∷ endRo 5 ∷ beginRo 0 ∷ [])) (only 7 ∷ ok 31 ∷
+        ok 33 ∷ [])
+    -- a partition of 9 rows wants 2 bytes, and later bytes stay; one of no rows wants none
+    ∷ case (made 1) (begin ∷ append 1 0 (replicate 9 7) ∷ [])
+      (linesOf (scan (Rw 1) 0 (0 ∷ []) ∷ scan (Rw 1) 0 (0 ∷ 0 ∷ []) ∷ scan (Rw 1) 1 [] ∷ []))
+      (only 3 ∷ (0 ∷ replicate 9 7) ∷ only 0 ∷ [])
+    ∷ case (made 1) (begin ∷ append 1 0 (replicate 9 7) ∷ []) (bytesTo (Rw 1) 0 (170 ∷ 170 ∷ 170 ∷ []))
+      ((0 ∷ 9 ∷ 9 ∷ []) ∷ (255 ∷ 1 ∷ 170 ∷ []) ∷ [])
+    ∷ case (made 1) (begin ∷ begin ∷ append 1 0 (1 ∷ 2 ∷ []) ∷ append 2 0 (3 ∷ []) ∷ []) (bytesTo (Rw 2) 0 (255 ∷
+        [])) ((0 ∷ 3 ∷ 1 ∷ []) ∷ (4 ∷ []) ∷ [])
+    ∷ case (made 1) (begin ∷ append 1 0 (replicate 9 7) ∷ []) (bytesTo (Rw 1) 0 (170 ∷ [])) ((3 ∷ 0 ∷ 0 ∷ []) ∷
+        (170 ∷ []) ∷ [])
+    -- 64 entries: an append that joins the last and a batch of no rows need none, any other needs one, and so
+    -- does a clearing
+    ∷ case (made 1) (begin ∷ begin ∷ turns 64)
+      (linesOf (append 1 0 (5 ∷ []) ∷ append 2 0 [] ∷ append 2 0 (5 ∷ []) ∷ clear 1 0 ∷ [])) (ok 65 ∷ ok 65 ∷ only
+          9 ∷ only 9 ∷ [])
+    -- the first and the last epoch, and what lies beside them
+    ∷ case (made 1) [] (linesOf (create 0 ∷ create (suc lastEpoch) ∷ create lastEpoch ∷ begin ∷ begin ∷ []))
+      (only 4 ∷ only 4 ∷ only 0 ∷ ok lastEpoch ∷ only 6 ∷ [])
+    -- a waiting transaction is closed: no commit, rollback, append, clear or scan by it
+    ∷ case (made 1) (begin ∷ begin ∷ commit 2 ∷ [])
+      (linesOf (commit 2 ∷ rollback 2 ∷ append 2 0 [] ∷ clear 2 0 ∷ look (Rw 2) ∷ [])) (only 2 ∷ only 2 ∷ only 2 ∷
+          only 2 ∷ only 2 ∷ [])
+    -- a rollback moves LCE, lowers later ends and joins what become neighbours
+    ∷ case (made 1) (begin ∷ begin ∷ commit 2 ∷ []) (linesOf (rollback 1 ∷ [])) (ok 2 ∷ [])
+    ∷ case (made 1) (begin ∷ begin ∷ append 1 0 (1 ∷ 2 ∷ []) ∷ append 2 0 (3 ∷ []) ∷ append 1 0 (4 ∷ []) ∷ rollback
+        2 ∷ []) (entriesIn 0)
+      ((1 ∷ 3 ∷ 0 ∷ []) ∷ [])
+    -- 01 "Where hands go wrong", first: 1 open, 2 committed, 3 begun, 1 committed; LSE stays below 1 while 3
+    -- is open
+    ∷ case (made 1) (begin ∷ begin ∷ append 1 0 (1 ∷ []) ∷ append 2 0 (2 ∷ []) ∷ commit 2 ∷ begin ∷ commit 1 ∷ [])
+      (linesOf (advanceLse 2 ∷ advanceLse 1 ∷ advanceLse 0 ∷ purge 0 ∷ look (Rw 3) ∷ []))
+      (only 10 ∷ only 10 ∷ ok 0 ∷ ok 0 ∷ (0 ∷ 2 ∷ []) ∷ [])
+    -- a delete whose end lies above the end before it: the row between is of its epoch and stands before it
+    ∷ case gap [] (linesOf (look (Ro 1) ∷ beginRo 2 ∷ look (Ro 2) ∷ [])) ((0 ∷ 77 ∷ 77 ∷ []) ∷ ok 2 ∷ only 0 ∷ [])
+    ∷ case gap (endRo 1 ∷ advanceLse 1 ∷ purge 0 ∷ []) (entriesIn 0) ((1 ∷ 2 ∷ 0 ∷ []) ∷ (2 ∷ 3 ∷ 1 ∷ []) ∷ [])
+    ∷ case gap (endRo 1 ∷ advanceLse 2 ∷ []) (linesOf (purge 0 ∷ beginRo 0 ∷ look (Ro 2) ∷ [])) (ok 1 ∷ ok 2 ∷ only
+        0 ∷ [])
+    -- a ticket is not used again
+    ∷ case (made 1) (beginRo 0 ∷ endRo 1 ∷ []) (linesOf (beginRo 0 ∷ endRo 1 ∷ [])) (ok 2 ∷ only 2 ∷ [])
+    ∷ []
+
+pub edges-hold : map observed edges ≡ map (λ c. c .expected) edges
+unfolding observed edges gap case look ok only turns lastEpoch
+edges-hold = refl
+
+-- ---- the order of the refusals: each neighbouring pair of each call, both of which hold
+
+-- LSE above LCE
+spoilt : Store → Store
+spoilt st = withManager (withClock (withLse (suc (managerOf st .clock .lce)) (managerOf st .clock)) (managerOf st))
+    st
+
+-- no ticket is left
+ticketless : Store → Store
+ticketless st = withManager (withReaders (readersOf (managerOf st)) (suc lastTicket) (managerOf st)) st
+
+-- 64 entries, by the open transactions 1 and 2
+full : Store
+full = run (begin ∷ begin ∷ turns 64) (made 1)
+
+pub order : List Case
+order =
+    case (spoilt (made 1)) [] (linesOf (append 1 8 [] ∷ clear 1 8 ∷ scan (Rw 1) 8 [] ∷ purge 8 ∷ [])) (only 5 ∷
+        only 5 ∷ only 5 ∷ only 5 ∷ [])
+    ∷ case (spoilt (made 1)) [] (linesOf (commit 1 ∷ rollback 1 ∷ endRo 1 ∷ beginRo 9 ∷ advanceLse 9 ∷ []))
+      (only 5 ∷ only 5 ∷ only 5 ∷ only 5 ∷ only 5 ∷ [])
+    ∷ case (spoilt (run (replicate 32 begin) (made (lastEpoch - 31)))) [] (linesOf (begin ∷ [])) (only 5 ∷ [])
+    ∷ case full [] (linesOf (append 9 8 [] ∷ clear 9 8 ∷ scan (Rw 9) 8 [] ∷ [])) (only 1 ∷ only 1 ∷ only 1 ∷ [])
+    ∷ case full [] (linesOf (append 9 0 (replicate 513 7) ∷ clear 9 0 ∷ scan (Ro 9) 0 [] ∷ [])) (only 2 ∷ only 2 ∷
+        only 2 ∷ [])
+    ∷ case full [] (linesOf (append 2 0 (replicate 449 7) ∷ append 2 0 (replicate 448 7) ∷ [])) (only 8 ∷ only 9 ∷
+        [])
+    ∷ case (run (replicate 32 begin) (made (lastEpoch - 31))) [] (linesOf (begin ∷ [])) (only 6 ∷ [])
+    ∷ case (ticketless (made 1)) [] (linesOf (beginRo 9 ∷ beginRo 0 ∷ [])) (only 4 ∷ only 6 ∷ [])
+    ∷ case (ticketless (run (replicate 32 (beginRo 0)) (made 1))) [] (linesOf (beginRo 0 ∷ [])) (only 6 ∷ [])
+    ∷ case (made 1) (begin ∷ beginRo 0 ∷ commit 1 ∷ []) (linesOf (advanceLse 2 ∷ advanceLse 1 ∷ [])) (only 4 ∷ only
+        10 ∷ [])
+    ∷ []
+
+pub order-holds : map observed order ≡ map (λ c. c .expected) order
+unfolding observed order spoilt ticketless full case only turns lastEpoch lastTicket
+order-holds = refl

@@ -1,0 +1,123 @@
+-- Demand 3: after every list of calls, each open reader is shown exactly what the ledger shows. Statement:
+-- specs/Claim.antt.
+-- In order: a call keeps the store beside the ledger, a list of calls does, a scan then agrees,
+-- history-shows.
+-- Assumes nothing.
+use mathlib.Core.Path.{_≡_, sym, _∙_, ap}
+use mathlib.Core.Bool.{true, _&&_, cond}
+use mathlib.Core.List.{List, [], _∷_}
+use Prim.Native.Nat.{ℕ, _≤_, _<_}
+use native.Mathlib.Omega.{arith}
+use lib.ListN.{length}
+use borrow.Author.Tests.{eqb-true, eq-eqb}
+use Rattle.lists.proofs.Laws.Bools.{split}
+use Rattle.rules.specs.Limits.{partitionsMax}
+use Rattle.rules.specs.Close.{committedManager, rolledBackManager}
+use Rattle.rules.specs.Store.{Store, managerOf, partitionAt}
+use Rattle.rules.specs.Bitmap.{bytesFor}
+use Rattle.rules.specs.Answers.{replyOf, accepted}
+use Rattle.rules.specs.WellFormed.{wellFormed, lengthsOk}
+use Rattle.rules.specs.Calls.{createAnswer, beginAnswer, closeAnswer, beginRoAnswer, endRoAnswer}
+use Rattle.rules.specs.Calls.{advanceLseAnswer, appendAnswer, clearAnswer, purgeAnswer, isReader}
+use Rattle.rules.specs.Calls.{seesOf}
+use Rattle.rules.specs.Calls.{appliesOf}
+use Rattle.rules.specs.Step.{Call, create, begin, append, clear, commit, rollback, beginRo, endRo, scan}
+use Rattle.rules.specs.Step.{advanceLse, purge, step, run}
+use Rattle.rules.specs.Ledger.{Ledger, heard, newLedger, linesAt}
+use Rattle.rules.specs.Claim.{eventOf, history, ledgerOf, shownBy, Agrees, HistoryShows}
+use Rattle.rules.specs.declared.Reader.{Reader}
+use Rattle.rules.specs.declared.Answer.{Answer}
+use Rattle.rules.proofs.Laws.Lines.{shows-ext}
+use Rattle.rules.proofs.Laws.Safe.{low-sees, low-applies}
+use Rattle.rules.proofs.Laws.Shown.{spansShow, scan-admits, scan-counts, scan-spans}
+use Rattle.rules.proofs.Laws.Calls.{create-passed, begin-passed, close-passed, begin-ro-passed}
+use Rattle.rules.proofs.Laws.Calls.{advance-passed}
+use Rattle.rules.proofs.Laws.Calls.{append-passed, clear-passed, purge-passed}
+use Rattle.rules.proofs.Laws.Tracks.{alive, ledgerSees, ledgerApplies, shownBy-tests, tracks-admits}
+use Rattle.rules.proofs.Laws.Tracks.{tracks-sees}
+use Rattle.rules.proofs.Laws.Tracks.{tracks-applies}
+use Rattle.rules.proofs.Laws.PartitionFollows.{follows-shown}
+use Rattle.rules.proofs.Laws.Follows.{Follows, follows-create, follows-begin, follows-commit}
+use Rattle.rules.proofs.Laws.Follows.{follows-rollback}
+use Rattle.rules.proofs.Laws.Follows.{follows-begin-ro, follows-end-ro, follows-advance}
+use Rattle.rules.proofs.Laws.Follows.{follows-append}
+use Rattle.rules.proofs.Laws.Follows.{follows-clear, follows-purge}
+
+-- ---- a call
+
+-- an accepted call changes both, a refused one neither
+either : (a : Answer) {st next : Store} {g later : Ledger} → Follows st g → (accepted a ≡ true → Follows next later)
+    → Follows (cond (accepted a) next st) (cond (accepted a) later g)
+either a F h = split (accepted a) (λ t. rw t (h t)) (λ f. rw f F)
+
+pub follows-step : (c : Call) {st : Store} {g : Ledger} → Follows st g
+    → Follows (step c st .store) (heard (eventOf c (replyOf (step c st .answer))) g)
+unfolding step heard eventOf
+follows-step (create s) {st} F = either (createAnswer s (lengthsOk st)) F
+  (λ t. let k = create-passed s (lengthsOk st) t in follows-create s st (k .sound) (k .low) (k .high))
+follows-step begin {st} F = either (beginAnswer (wellFormed st) (managerOf st)) F
+  (λ t. let k = begin-passed (wellFormed st) (managerOf st) t in rw (k .is) (follows-begin F (k .last) (k .room)))
+follows-step (append i p batch) {st} F = either (appendAnswer i p batch st) F
+  (λ t. let k = append-passed i p st batch (λ w h. let q = F .ok .partition p h in let c = q .row-count in let n =
+      q .spans-ok .rows-fit in omega arith) t in
+    follows-append F i p (k .write .partition) (k .write .pending) batch (k .rows) (k .entries))
+follows-step (clear i p) {st} F = either (clearAnswer i p st) F
+  (λ t. let k = clear-passed i p st t in follows-clear F i p (k .0 .partition) (k .0 .pending) (k .1))
+follows-step (commit i) {st} F = either (closeAnswer i (wellFormed st) (managerOf st) (committedManager i
+    (managerOf st))) F
+  (λ t. follows-commit F i (close-passed i (wellFormed st) (managerOf st) _ t .pending))
+follows-step (rollback i) {st} F = either (closeAnswer i (wellFormed st) (managerOf st) (rolledBackManager i
+    (managerOf st))) F
+  (λ t. follows-rollback F i (close-passed i (wellFormed st) (managerOf st) _ t .pending))
+follows-step (beginRo e) {st} F = either (beginRoAnswer e (wellFormed st) (managerOf st)) F
+  (λ t. let k = begin-ro-passed e (wellFormed st) (managerOf st) t in
+    rw (k .is) (follows-begin-ro F e (k .low) (k .high) (k .last) (k .room)))
+follows-step (endRo t) {st} F = either (endRoAnswer t (wellFormed st) (managerOf st)) F (λ _. follows-end-ro F t)
+follows-step (scan r p lent) F = F
+follows-step (advanceLse t) {st} {g} F = split (accepted (advanceLseAnswer t (wellFormed st) (managerOf st)))
+  (λ a. let k = advance-passed t (wellFormed st) (managerOf st) a in rw a (follows-advance F t (k .low) (k .high)
+      (k .free)))
+  (λ f. rw f F)
+follows-step (purge p) {st} F = split (accepted (purgeAnswer p st))
+  (λ a. rw a (follows-purge F p (purge-passed p st a .1)))
+  (λ f. rw f F)
+
+-- ---- a list of calls
+
+pub follows-run : (calls : List Call) {st : Store} {g : Ledger} → Follows st g → Follows (run calls st) (ledgerOf
+    (history calls st) g)
+unfolding run history ledgerOf
+follows-run [] F = F
+follows-run (c ∷ cs) F = follows-run cs (follows-step c F)
+
+-- ---- a scan
+
+module _ {st : Store} {g : Ledger} (F : Follows st g) (r : Reader) (p : ℕ) (h : p < partitionsMax) where
+  -- what the spans show an open reader is what the ledger shows
+  shown : isReader r (managerOf st) ≡ true → spansShow r p st ≡ shownBy r p g
+  shown o = let m = managerOf st in
+      follows-shown (F .partition p h) (seesOf r m) (appliesOf r m) (low-sees m (F .ok .manager) r o)
+        (low-applies m (F .ok .manager) r o)
+      ∙ (shows-ext (λ j. alive g j && seesOf r m j) (λ k. alive g k && appliesOf r m k) (ledgerSees r g)
+        (ledgerApplies r g) (tracks-sees (F .tracks) r o) (tracks-applies (F .tracks) r o) (linesAt p g)
+      ∙ sym (shownBy-tests r p g))
+
+  pub follows-agrees : (lent : List ℕ) → bytesFor (partitionAt p st .rows) ≤ length lent → Agrees st g r p lent
+  follows-agrees lent enough =
+      let same = tracks-admits (F .tracks) r in let admits = scan-admits st (F .ok) r p h lent enough ∙ same in
+      let number = replyOf (step (scan r p lent) st .answer) .number in record {
+        admits = (λ n. sym admits ∙ eq-eqb number 0 n, λ e. eqb-true number 0 (admits ∙ e));
+        counts = λ e. scan-counts st (F .ok) r p h lent enough (same ∙ e) ∙ ap length (shown (same ∙ e));
+        shows = λ e. scan-spans st (F .ok) r p h lent enough (same ∙ e) ∙ shown (same ∙ e) }
+
+-- ---- demand 3
+
+pub follows-made : (st : Store) (s : ℕ) → accepted (step (create s) st .answer) ≡ true
+    → Follows (step (create s) st .store) (newLedger s)
+unfolding step
+follows-made st s t = let k = create-passed s (lengthsOk st) t in
+    rw t (follows-create s st (k .sound) (k .low) (k .high))
+
+pub history-shows : HistoryShows
+history-shows st s t calls r p lent h enough =
+    follows-agrees (follows-run calls (follows-made st s t)) r p h lent enough

@@ -1,0 +1,71 @@
+-- 01's numbers and values for what a call answers. 01 "Refusals that come from the input", ".. from the
+-- state", and each call.
+-- In order: refusalNumber (the one table of refusals), Reply, replyOf, accepted, livePart.
+-- Assumes nothing.
+use mathlib.Core.Bool.{Bool}
+use mathlib.Core.List.{List, []}
+use Prim.Native.Nat.{ℕ}
+use lib.ListN.{take}
+use lib.Dec.{eqb}
+use Rattle.rules.specs.declared.Refusal.{Refusal}
+use Rattle.rules.specs.declared.Refusal.the-variants.{UnknownPartition, NotOpen, ShortBitmap}
+use Rattle.rules.specs.declared.Refusal.the-variants.{OutOfRange, Unsound, Exhausted, TxnsFull}
+use Rattle.rules.specs.declared.Refusal.the-variants.{RowsFull, EntriesFull, Blocked}
+use Rattle.rules.specs.declared.Answer.{Answer}
+use Rattle.rules.specs.declared.Answer.the-variants.{Created, Begun, Appended, Cleared, Closed, BegunRo}
+use Rattle.rules.specs.declared.Answer.the-variants.{EndedRo, Scanned, AdvancedLse, Rewritten, Skipped}
+use Rattle.rules.specs.declared.Answer.the-variants.{Refused}
+
+abbrev pub refusalNumber : Refusal → ℕ
+refusalNumber UnknownPartition = 1
+refusalNumber NotOpen = 2
+refusalNumber ShortBitmap = 3
+refusalNumber OutOfRange = 4
+refusalNumber Unsound = 5
+refusalNumber Exhausted = 6
+refusalNumber TxnsFull = 7
+refusalNumber RowsFull = 8
+refusalNumber EntriesFull = 9
+refusalNumber Blocked = 10
+
+-- the number, and up to two values
+pub record Reply : Type 0 where
+  pub number : ℕ
+  pub value : ℕ
+  pub second : ℕ
+
+abbrev pub yields : ℕ → Reply
+yields v = record { number = 0; value = v; second = 0 }
+
+-- a refusal's values are 0
+abbrev pub replyOf : Answer → Reply
+replyOf Created = yields 0
+replyOf (Begun epoch) = yields epoch
+replyOf (Appended rows) = yields rows
+replyOf (Cleared entries) = yields entries
+replyOf (Closed lce) = yields lce
+replyOf (BegunRo ticket) = yields ticket
+replyOf (EndedRo left) = yields left
+replyOf (Scanned rows ones) = record { number = 0; value = rows; second = ones }
+replyOf (AdvancedLse lse) = yields lse
+replyOf (Rewritten rows) = yields 1
+replyOf (Skipped rows) = yields 0
+replyOf (Refused r) = record { number = refusalNumber r; value = 0; second = 0 }
+
+abbrev pub accepted : Answer → Bool
+accepted a = eqb (replyOf a .number) 0
+
+-- the rows in force that purge answers: a part of the old area or of the new one, empty where it was refused
+abbrev pub livePart : List ℕ → List ℕ → Answer → List ℕ
+livePart old new Created = []
+livePart old new (Begun epoch) = []
+livePart old new (Appended rows) = []
+livePart old new (Cleared entries) = []
+livePart old new (Closed lce) = []
+livePart old new (BegunRo ticket) = []
+livePart old new (EndedRo left) = []
+livePart old new (Scanned rows ones) = []
+livePart old new (AdvancedLse lse) = []
+livePart old new (Rewritten rows) = take rows new
+livePart old new (Skipped rows) = take rows old
+livePart old new (Refused r) = []

@@ -1,0 +1,88 @@
+-- Demand 3 as one statement: after every list of calls, what a scan shows is what the ledger shows.
+-- 01 "The ledger of demand 3", first and last paragraphs. In order: eventOf, history, wordsAtOnes, Agrees,
+-- HistoryShows.
+-- Assumes nothing.
+use mathlib.Core.Path.{_≡_}
+use mathlib.Core.Logic.{_↔_}
+use mathlib.Core.Bool.{Bool, true, false, cond}
+use mathlib.Core.List.{List, [], _∷_}
+use Prim.Native.Nat.{ℕ, suc, _+_, _*_, _/_, _%_, _^_, _≤_, _<_}
+use lib.ListN.{length, take, getD}
+use lib.Dec.{eqb}
+use Rattle.rules.specs.Limits.{partitionsMax}
+use Rattle.rules.specs.Answers.{Reply, replyOf, accepted}
+use Rattle.rules.specs.Bitmap.{bytesFor}
+use Rattle.rules.specs.Store.{Store, partitionAt}
+use Rattle.rules.specs.Step.{Call, create, begin, append, clear, commit, rollback, beginRo, endRo, scan}
+use Rattle.rules.specs.Step.{advanceLse, purge, areaRows, step, run}
+use Rattle.rules.specs.Ledger.{Ledger, Event, newAt, began, added, deleted, committed, rolledBack}
+use Rattle.rules.specs.Ledger.{opened, closed, other, heard, newLedger, hasWriter, hasReader}
+use Rattle.rules.specs.Ledger.{writerShows, readerShows}
+use Rattle.rules.specs.declared.Reader.{Reader}
+use Rattle.rules.specs.declared.Reader.the-variants.{Rw, Ro}
+
+-- what the ledger is told of a call and its reply
+unfoldable pub eventOf : Call → Reply → Event
+eventOf (create s) r = newAt (r .number) s
+eventOf begin r = began (r .number) (r .value)
+eventOf (append i p batch) r = added (r .number) i p batch
+eventOf (clear i p) r = deleted (r .number) i p
+eventOf (commit i) r = committed (r .number) i
+eventOf (rollback i) r = rolledBack (r .number) i
+eventOf (beginRo e) r = opened (r .number) e (r .value)
+eventOf (endRo t) r = closed (r .number) t
+eventOf (scan v p lent) r = other
+eventOf (advanceLse t) r = other
+eventOf (purge p) r = other
+
+-- what the history of a list of calls tells it
+unfoldable pub history : List Call → Store → List Event
+history [] st = []
+history (c ∷ cs) st = eventOf c (replyOf (step c st .answer)) ∷ history cs (step c st .store)
+
+unfoldable pub ledgerOf : List Event → Ledger → Ledger
+ledgerOf [] g = g
+ledgerOf (e ∷ es) g = ledgerOf es (heard e g)
+
+-- bit n of a bitmap, row 0 lowest in byte 0
+abbrev pub bitAt : List ℕ → ℕ → Bool
+bitAt bytes n = eqb (getD bytes (n / 8) 0 / 2 ^ (n % 8) % 2) 1
+
+-- the words at the ones of a bitmap, lowest first; the first word is row n
+unfoldable pub wordsAtOnes : List ℕ → ℕ → List ℕ → List ℕ
+wordsAtOnes bytes n [] = []
+wordsAtOnes bytes n (w ∷ ws) =
+    let rest = wordsAtOnes bytes (suc n) ws in cond (bitAt bytes n) (w ∷ rest) rest
+
+abbrev pub isOpenIn : Reader → Ledger → Bool
+isOpenIn (Rw i) g = hasWriter i g
+isOpenIn (Ro t) g = hasReader t g
+
+abbrev pub shownBy : Reader → ℕ → Ledger → List ℕ
+shownBy (Rw i) p g = writerShows i p g
+shownBy (Ro t) p g = readerShows t p g
+
+-- the words of partition p's area, as many as the scan counted rows, at the ones that it wrote
+abbrev pub scanned : Reader → ℕ → List ℕ → Store → List ℕ
+scanned r p lent st =
+    let out = step (scan r p lent) st in
+    wordsAtOnes (out .bitmap) 0 (take (replyOf (out .answer) .value) (areaRows (partitionAt p st .area) st))
+
+-- a scan by r of partition p, lent these bytes, beside the ledger: accepted exactly for an open reader, and
+-- then with as many ones as the ledger shows rows, and the words at the ones those that the ledger shows
+pub record Agrees (st : Store) (g : Ledger) (r : Reader) (p : ℕ) (lent : List ℕ) : Type 0 where
+  pub admits : replyOf (step (scan r p lent) st .answer) .number ≡ 0 ↔ isOpenIn r g ≡ true
+  pub counts : isOpenIn r g ≡ true → replyOf (step (scan r p lent) st .answer) .second ≡ length (shownBy r p g)
+  pub shows : isOpenIn r g ≡ true → scanned r p lent st ≡ shownBy r p g
+
+-- Demand 3. From any store, unsound ones included, on which making new at s is accepted; for every list of
+-- calls; for every partition, every reader and every lent bitmap of the bytes that the rows need, whatever it
+-- held.
+abbrev pub HistoryShows : Type 0
+HistoryShows =
+    (st : Store) (s : ℕ) → accepted (step (create s) st .answer) ≡ true
+    → (calls : List Call) (r : Reader) (p : ℕ) (lent : List ℕ) → p < partitionsMax
+    → let start = step (create s) st .store in
+      let end = run calls start in
+      bytesFor (partitionAt p end .rows) ≤ length lent
+    → Agrees end (ledgerOf (history calls start) (newLedger s)) r p lent

@@ -1,0 +1,45 @@
+-- Commit and roll back, in the manager: the transaction is closed, then LCE is settled.
+-- 01 "The books", Commit, roll back; 004 III-B "LCE" and Table I, where only a commit moves LCE.
+-- In order: committedTxns, droppedTxns, settledLce, settled, committedManager, rolledBackManager. Laws:
+-- proofs/Laws/Close.antt.
+-- Assumes nothing.
+use mathlib.Core.Bool.{Bool, true, false, not, _&&_, _||_, cond}
+use mathlib.Core.List.{List, [], _∷_, map, foldr}
+use Prim.Native.Nat.{ℕ, max}
+use lib.Dec.{ltb, leb}
+use Rattle.lists.specs.Lists.{keepIf, allOf}
+use Rattle.rules.specs.Manager.{noDeps, isOpen, opens, writersOf, withClock, withLce, withWriters}
+use Rattle.rules.specs.declared.RwTxn.{RwTxn}
+use Rattle.rules.specs.declared.Manager.{Manager}
+
+-- committed, it waits: it drops its deps and keeps its place
+abbrev pub waitingTxn : ℕ → RwTxn
+waitingTxn e = record { epoch = e; waiting = 1; deps = noDeps }
+
+unfoldable pub committedTxns : ℕ → List RwTxn → List RwTxn
+committedTxns i ts = map (λ t. cond (opens i t) (waitingTxn i) t) ts
+
+-- rolled back, it has no place
+unfoldable pub droppedTxns : ℕ → List RwTxn → List RwTxn
+droppedTxns i ts = keepIf (λ t. not (opens i t)) ts
+
+-- no open transaction has a smaller epoch than e
+abbrev pub unblocked : List RwTxn → ℕ → Bool
+unblocked ts e = allOf (λ t. not (isOpen t) || leb e (t .epoch)) ts
+
+-- the greatest committed epoch that has no open one below it: lce, unless one that waits is newer
+unfoldable pub settledLce : ℕ → List RwTxn → ℕ
+settledLce lce ts =
+    foldr max lce (map (λ t. t .epoch) (keepIf (λ t. not (isOpen t) && unblocked ts (t .epoch)) ts))
+
+-- LCE is settled, and what it has reached waits no longer
+unfoldable pub settled : List RwTxn → Manager → Manager
+settled ts m =
+    let lce = settledLce (m .clock .lce) ts in
+    withClock (withLce lce (m .clock)) (withWriters (keepIf (λ t. isOpen t || ltb lce (t .epoch)) ts) m)
+
+unfoldable pub committedManager : ℕ → Manager → Manager
+committedManager i m = settled (committedTxns i (writersOf m)) m
+
+unfoldable pub rolledBackManager : ℕ → Manager → Manager
+rolledBackManager i m = settled (droppedTxns i (writersOf m)) m

@@ -1,0 +1,138 @@
+// The types of the store. Every field of lent and kept state is a number, so that any word may stand in it:
+// a word out of place is refused as unsound (01 "Refusals", 5) and never loaded as a bool or an enum. Fields lie in
+// the order written, each 8 bytes wide and without padding, for callers in C and Rust.
+
+// The clock of 01's books: the next epoch (EC), the latest committed epoch (LCE), the latest safe epoch
+// (LSE).
+#[repr(C)]
+pub struct Clock {
+    pub ec: u64,
+    pub lce: u64,
+    pub lse: u64,
+}
+
+// The epochs that were open when a transaction began (01: deps).
+#[repr(C)]
+pub struct Deps {
+    pub at: [u64; 31],
+    pub count: usize,
+}
+
+// A read-write transaction (01: load). waiting is 0 while it is open, and 1 once it is committed above LCE.
+#[repr(C)]
+pub struct RwTxn {
+    pub epoch: u64,
+    pub waiting: u64,
+    pub deps: Deps,
+}
+
+#[repr(C)]
+pub struct RwTxns {
+    pub at: [RwTxn; 32],
+    pub count: usize,
+}
+
+// A read-only transaction (01: page).
+#[repr(C)]
+pub struct RoTxn {
+    pub ticket: u64,
+    pub epoch: u64,
+}
+
+// next is the ticket that is handed out next.
+#[repr(C)]
+pub struct RoTxns {
+    pub at: [RoTxn; 32],
+    pub count: usize,
+    pub next: u64,
+}
+
+// The transaction manager: what 01's books hold beside the lots.
+#[repr(C)]
+pub struct Manager {
+    pub clock: Clock,
+    pub writers: RwTxns,
+    pub readers: RoTxns,
+}
+
+// A partition (01: lot): its area, and how many rows and entries it has there.
+#[repr(C)]
+pub struct Partition {
+    pub area: usize,
+    pub rows: usize,
+    pub entries: usize,
+}
+
+#[repr(C)]
+pub struct Partitions {
+    pub at: [Partition; 8],
+    pub spare: usize,
+}
+
+// 01's books, kept by value. The areas of rows and of entries are lent.
+#[repr(C)]
+pub struct State {
+    pub manager: Manager,
+    pub partitions: Partitions,
+}
+
+// An entry of a partition: the epoch, how many rows the partition holds after it, and a mark: 0 rows, 1
+// delete (01: clearing).
+#[repr(C)]
+pub struct Entry {
+    pub epoch: u64,
+    pub end: usize,
+    pub mark: u64,
+}
+
+// Who scans: a read-write transaction by its epoch, or a read-only one by its ticket.
+pub enum Reader {
+    Rw(u64),
+    Ro(u64),
+}
+
+// Why a call is refused. specs/Answers.antt has 01's number for each.
+pub enum Refusal {
+    UnknownPartition,
+    NotOpen,
+    ShortBitmap,
+    OutOfRange,
+    Unsound,
+    Exhausted,
+    TxnsFull,
+    RowsFull,
+    EntriesFull,
+    Blocked,
+}
+
+// What a call answers. specs/Answers.antt has 01's number and values for each case.
+pub enum Answer {
+    Created,
+    Begun { epoch: u64 },
+    Appended { rows: usize },
+    Cleared { entries: usize },
+    Closed { lce: u64 },
+    BegunRo { ticket: u64 },
+    EndedRo { left: usize },
+    Scanned { rows: usize, ones: usize },
+    AdvancedLse { lse: u64 },
+    Rewritten { rows: usize },
+    Skipped { rows: usize },
+    Refused(Refusal),
+}
+
+// A call as a number of words: what a session's line names, and what the dispatcher takes. The rows of an append and
+// the bitmap of a scan are lent beside it.
+pub enum Command {
+    Create { start: u64 },
+    Begin,
+    Append { txn: u64, partition: u64 },
+    Clear { txn: u64, partition: u64 },
+    Commit { txn: u64 },
+    RollBack { txn: u64 },
+    BeginRo { epoch: u64 },
+    EndRo { ticket: u64 },
+    Scan { reader: Reader, partition: u64 },
+    AdvanceLse { target: u64 },
+    Purge { partition: u64 },
+}
