@@ -1,0 +1,314 @@
+//! The store and its calls, each with its refusals in 01's order (01, "The books", "Lots" and the refusals).
+
+use crate::clock::Clock;
+use crate::partition::{entries_of, extends_last, Areas, Entry, Partitions};
+use crate::refusal::Refusal;
+use crate::sound::{lengths_right, well_formed};
+use crate::txn::{blocked, greatest_free_target, RoTable, RwTable};
+use crate::variant::{wrong, Variant};
+use crate::visible::{bytes_needed, write_bits, Reader, View};
+use crate::{AREAS, AREA_ENTRIES, AREA_ROWS, EPOCH_END, LAST_EPOCH, PARTITIONS, TICKET_END, TXNS};
+
+/// The books.
+#[repr(C)]
+#[derive(Clone, Copy, Debug, PartialEq, Eq)]
+pub struct Manager {
+    pub clock: Clock,
+    pub rw: RwTable,
+    pub ro: RoTable,
+    pub partitions: Partitions,
+}
+
+/// The books with the two lent areas. The lengths may be wrong: then every call is refused by 5.
+#[derive(Clone, Debug, PartialEq, Eq)]
+pub struct Store {
+    pub manager: Manager,
+    pub rows: Vec<u64>,
+    pub entries: Vec<Entry>,
+    /// Leaves the test of well-formedness out. For measuring, and for many scans of one tested store.
+    pub trusted: bool,
+}
+
+/// The rows now in force (live part): `count` words of the lent rows from word `place` on.
+#[derive(Clone, Copy, Debug, PartialEq, Eq)]
+pub struct LivePart {
+    pub place: u64,
+    pub count: u64,
+}
+
+#[derive(Clone, Copy, Debug, PartialEq, Eq)]
+pub struct Purged {
+    pub rewritten: bool,
+    pub live: LivePart,
+}
+
+#[derive(Clone, Copy, Debug, PartialEq, Eq)]
+pub struct Scanned {
+    pub rows: u64,
+    pub ones: u64,
+}
+
+impl Manager {
+    /// The books of a store made new.
+    pub fn starting_at(start: u64) -> Manager {
+        Manager {
+            clock: Clock::starting_at(start),
+            rw: RwTable::default(),
+            ro: RoTable { next: 1, ..RoTable::default() },
+            partitions: Partitions::empty(),
+        }
+    }
+
+    /// All words of the books in the order of their fields.
+    pub fn words(&self) -> Vec<u64> {
+        let mut words = vec![self.clock.ec, self.clock.lce, self.clock.lse];
+        for txn in &self.rw.at {
+            words.extend([txn.epoch, txn.waiting]);
+            words.extend(txn.deps);
+            words.push(txn.deps_count);
+        }
+        words.push(self.rw.count);
+        for txn in &self.ro.at {
+            words.extend([txn.ticket, txn.epoch]);
+        }
+        words.extend([self.ro.count, self.ro.next]);
+        for partition in &self.partitions.at {
+            words.extend([partition.area, partition.rows, partition.entries]);
+        }
+        words.push(self.partitions.spare);
+        words
+    }
+
+    /// The books from their words, if there are as many as the books have.
+    pub fn from_words(words: &[u64]) -> Option<Manager> {
+        let mut books = Manager::starting_at(1);
+        if words.len() != books.words().len() {
+            return None;
+        }
+        let mut words = words.iter().copied();
+        let mut next = || words.next().unwrap_or(0);
+        books.clock = Clock { ec: next(), lce: next(), lse: next() };
+        for txn in &mut books.rw.at {
+            (txn.epoch, txn.waiting) = (next(), next());
+            txn.deps.fill_with(&mut next);
+            txn.deps_count = next();
+        }
+        books.rw.count = next();
+        for txn in &mut books.ro.at {
+            (txn.ticket, txn.epoch) = (next(), next());
+        }
+        (books.ro.count, books.ro.next) = (next(), next());
+        for partition in &mut books.partitions.at {
+            (partition.area, partition.rows, partition.entries) = (next(), next(), next());
+        }
+        books.partitions.spare = next();
+        Some(books)
+    }
+}
+
+impl Store {
+    /// A store made new at `start` (1 to 2,147,483,647) in areas of zeros.
+    pub fn new(start: u64) -> Store {
+        Store {
+            manager: Manager::starting_at(start),
+            rows: vec![0; AREAS * AREA_ROWS],
+            entries: vec![Entry::default(); AREAS * AREA_ENTRIES],
+            trusted: false,
+        }
+    }
+
+    /// Makes the store new. Reads no state, writes no row and no entry.
+    pub fn make_new(&mut self, start: u64) -> Result<(), Refusal> {
+        if !lengths_right(self) {
+            return Err(Refusal::NotWellFormed);
+        }
+        if !(1..=LAST_EPOCH).contains(&start) {
+            return Err(Refusal::OutOfRange);
+        }
+        self.manager = Manager::starting_at(start);
+        Ok(())
+    }
+
+    /// Begins a load; answers its epoch.
+    pub fn begin(&mut self) -> Result<u64, Refusal> {
+        self.refuse_ill_formed()?;
+        if self.manager.clock.ec == EPOCH_END {
+            return Err(Refusal::Exhausted);
+        }
+        if self.manager.rw.count == TXNS as u64 {
+            return Err(Refusal::TxnsFull);
+        }
+        let epoch = self.manager.clock.advance();
+        self.manager.rw.begin(epoch);
+        Ok(epoch)
+    }
+
+    /// Appends a batch, all or none; answers the rows now in the lot.
+    pub fn append(&mut self, epoch: u64, partition: u64, batch: &[u64]) -> Result<u64, Refusal> {
+        self.refuse_ill_formed()?;
+        let p = place_of(partition)?;
+        self.refuse_not_open(epoch)?;
+        let room = AREA_ROWS - self.manager.partitions.at[p].rows as usize;
+        let entry_needed =
+            !batch.is_empty() && !extends_last(&self.manager.partitions.at[p], &self.entries, epoch);
+        let entries_full = self.manager.partitions.at[p].entries == AREA_ENTRIES as u64;
+        if wrong(Variant::EntriesBeforeRows) && entry_needed && entries_full {
+            return Err(Refusal::EntriesFull);
+        }
+        if batch.len() > room {
+            if wrong(Variant::RefusalWrites) && room > 0 {
+                let partition = &self.manager.partitions.at[p];
+                self.rows[partition.area as usize * AREA_ROWS + partition.rows as usize] = batch[0];
+            }
+            if wrong(Variant::AppendPart) && room > 0 && !(entry_needed && entries_full) {
+                self.areas().append(p, epoch, &batch[..room]);
+            }
+            return Err(Refusal::RowsFull);
+        }
+        if entry_needed && entries_full {
+            return Err(Refusal::EntriesFull);
+        }
+        if wrong(Variant::OnlyFirstLoadKept) && self.manager.rw.at[0].epoch != epoch {
+            return Ok(self.manager.partitions.at[p].rows + batch.len() as u64);
+        }
+        if !batch.is_empty() || wrong(Variant::EmptyBatchAddsEntry) && !entries_full {
+            self.areas().append(p, epoch, batch);
+        }
+        Ok(self.manager.partitions.at[p].rows)
+    }
+
+    /// Clears a lot; answers the entries it now has.
+    pub fn clear(&mut self, epoch: u64, partition: u64) -> Result<u64, Refusal> {
+        self.refuse_ill_formed()?;
+        let p = place_of(partition)?;
+        self.refuse_not_open(epoch)?;
+        if self.manager.partitions.at[p].entries == AREA_ENTRIES as u64 {
+            return Err(Refusal::EntriesFull);
+        }
+        self.areas().clear(p, epoch);
+        Ok(self.manager.partitions.at[p].entries)
+    }
+
+    /// Commits a load; answers LCE.
+    pub fn commit(&mut self, epoch: u64) -> Result<u64, Refusal> {
+        self.refuse_ill_formed()?;
+        self.refuse_not_open(epoch)?;
+        self.manager.rw.commit(epoch);
+        self.manager.rw.settle(&mut self.manager.clock);
+        if wrong(Variant::DepsForgetClosed) {
+            self.manager.rw.forget(epoch);
+        }
+        Ok(self.manager.clock.lce)
+    }
+
+    /// Rolls a load back; answers LCE.
+    pub fn rollback(&mut self, epoch: u64) -> Result<u64, Refusal> {
+        self.refuse_ill_formed()?;
+        self.refuse_not_open(epoch)?;
+        self.areas().rollback(epoch);
+        self.manager.rw.rollback(epoch);
+        if !wrong(Variant::RollbackKeepsLce) {
+            self.manager.rw.settle(&mut self.manager.clock);
+        }
+        Ok(self.manager.clock.lce)
+    }
+
+    /// Opens a page at an epoch, 0 meaning LCE; answers its ticket.
+    pub fn open(&mut self, epoch: u64) -> Result<u64, Refusal> {
+        self.refuse_ill_formed()?;
+        let clock = self.manager.clock;
+        let epoch = if epoch == 0 { clock.lce } else { epoch };
+        if !(clock.lse..=clock.lce).contains(&epoch) {
+            return Err(Refusal::OutOfRange);
+        }
+        if self.manager.ro.next == TICKET_END {
+            return Err(Refusal::Exhausted);
+        }
+        if self.manager.ro.count == TXNS as u64 {
+            return Err(Refusal::TxnsFull);
+        }
+        Ok(self.manager.ro.open(epoch))
+    }
+
+    /// Closes a page; answers how many are still open.
+    pub fn close(&mut self, ticket: u64) -> Result<u64, Refusal> {
+        self.refuse_ill_formed()?;
+        if self.manager.ro.find_open(ticket).is_none() {
+            return Err(Refusal::NotOpen);
+        }
+        self.manager.ro.close(ticket);
+        Ok(self.manager.ro.count)
+    }
+
+    /// Moves LSE, 0 meaning as far as nothing holds it; answers LSE.
+    pub fn move_lse(&mut self, target: u64) -> Result<u64, Refusal> {
+        self.refuse_ill_formed()?;
+        let Manager { clock, rw, ro, .. } = &mut self.manager;
+        let target = if target == 0 { greatest_free_target(clock, rw, ro) } else { target };
+        if !(clock.lse..=clock.lce).contains(&target) {
+            return Err(Refusal::OutOfRange);
+        }
+        if blocked(rw, ro, target) {
+            return Err(Refusal::Blocked);
+        }
+        clock.lse = target;
+        Ok(target)
+    }
+
+    /// Purges a lot at LSE; answers whether it was rewritten, and the rows now in force.
+    pub fn purge(&mut self, partition: u64) -> Result<Purged, Refusal> {
+        self.refuse_ill_formed()?;
+        let p = place_of(partition)?;
+        let clock = self.manager.clock;
+        let limit = if wrong(Variant::PurgeAtLce) { clock.lce } else { clock.lse };
+        let rewritten = self.areas().purge(p, limit);
+        let partition = self.manager.partitions.at[p];
+        let live = LivePart { place: partition.area * AREA_ROWS as u64, count: partition.rows };
+        Ok(Purged { rewritten, live })
+    }
+
+    /// Scans a lot for a reader into the lent bitmap; answers the row count and the count of ones.
+    pub fn scan(&self, reader: Reader, partition: u64, bitmap: &mut [u8]) -> Result<Scanned, Refusal> {
+        self.refuse_ill_formed()?;
+        let p = place_of(partition)?;
+        let view = match reader {
+            Reader::Rw(epoch) => View::Rw(self.manager.rw.find_open(epoch).ok_or(Refusal::NotOpen)?),
+            Reader::Ro(ticket) => View::Ro(self.manager.ro.find_open(ticket).ok_or(Refusal::NotOpen)?.epoch),
+        };
+        let partition = self.manager.partitions.at[p];
+        if bitmap.len() < bytes_needed(partition.rows) {
+            return Err(Refusal::BitmapShort);
+        }
+        let entries = entries_of(&partition, &self.entries);
+        let ones = write_bits(&view, entries, partition.rows, bitmap);
+        Ok(Scanned { rows: partition.rows, ones })
+    }
+
+    fn refuse_ill_formed(&self) -> Result<(), Refusal> {
+        if self.trusted || well_formed(self) {
+            Ok(())
+        } else {
+            Err(Refusal::NotWellFormed)
+        }
+    }
+
+    fn refuse_not_open(&self, epoch: u64) -> Result<(), Refusal> {
+        match self.manager.rw.find_open(epoch) {
+            Some(_) => Ok(()),
+            None => Err(Refusal::NotOpen),
+        }
+    }
+
+    fn areas(&mut self) -> Areas<'_> {
+        Areas { partitions: &mut self.manager.partitions, rows: &mut self.rows, entries: &mut self.entries }
+    }
+}
+
+/// The place of a lot, 0 to 7.
+fn place_of(partition: u64) -> Result<usize, Refusal> {
+    if partition < PARTITIONS as u64 {
+        Ok(partition as usize)
+    } else {
+        Err(Refusal::NoPartition)
+    }
+}

@@ -1,0 +1,89 @@
+//! Each wrong reading must be told from the right one (01, "Where hands go wrong" and "Agreed").
+
+use crate::cases::CASES;
+use crate::check::{run_history, Checks};
+use crate::histories::PROFILES;
+use crate::variant::{choose, Variant};
+use std::panic::catch_unwind;
+
+/// The first fixed case that fails, if any. A panic is a failure too.
+fn told_by_cases() -> Option<String> {
+    for (name, case) in CASES {
+        match catch_unwind(case) {
+            Ok(Ok(())) => {}
+            Ok(Err(_)) => return Some(name.to_string()),
+            Err(_) => return Some(format!("{name}, by a panic")),
+        }
+    }
+    None
+}
+
+/// The first random history that fails, if any.
+fn told_by_histories(checks: Checks, seeds: u64) -> Option<String> {
+    for seed in 0..seeds {
+        for profile in PROFILES {
+            match catch_unwind(|| run_history(seed, profile, 400, checks)) {
+                Ok(Ok(_)) => {}
+                Ok(Err(what)) => return Some(what.chars().take(150).collect()),
+                Err(_) => return Some(format!("{} seed {seed}, by a panic", profile.name)),
+            }
+        }
+    }
+    None
+}
+
+/// Histories of all profiles for so many seeds are tried for each wrong reading.
+const SEEDS: u64 = 15;
+
+/// Wrong readings that keep every promise of the ledger and of *sound*: in a history only the second reading
+/// of each call tells them.
+const ONLY_BY_SECOND_READING: [Variant; 4] =
+    [Variant::TicketReused, Variant::PurgeKeepsOwnEpoch, Variant::PurgeSkipsTooMuch, Variant::RewriteInPlace];
+
+#[test]
+fn the_right_reading_passes() {
+    choose(None);
+    assert_eq!(told_by_cases(), None);
+    assert_eq!(told_by_histories(Checks::ALL, SEEDS), None);
+}
+
+#[test]
+fn each_wrong_reading_is_told() {
+    let mut untold = Vec::new();
+    for variant in Variant::ALL {
+        choose(Some(variant));
+        let cases = told_by_cases();
+        let quiet = ONLY_BY_SECOND_READING.contains(&variant);
+        let ledger = told_by_histories(Checks { expect: false, ledger: true }, if quiet { 2 } else { SEEDS });
+        let all = told_by_histories(Checks::ALL, SEEDS);
+        choose(None);
+        println!("{variant:?}\n  cases: {cases:?}\n  ledger: {ledger:?}\n  all: {all:?}");
+        if cases.is_none() {
+            untold.push(format!("{variant:?} by the fixed cases"));
+        }
+        if ledger.is_none() != quiet {
+            untold.push(format!("{variant:?} by ledger and sound: {ledger:?}"));
+        }
+        if all.is_none() {
+            untold.push(format!("{variant:?} by the histories"));
+        }
+    }
+    assert!(untold.is_empty(), "{untold:#?}");
+}
+
+#[test]
+fn each_named_hand_is_told_by_its_own_case() {
+    for (variant, named) in [
+        (Variant::LseByOpenEpochs, "wrong: LSE by open epochs"),
+        (Variant::ClearHidesBeforeOnly, "wrong: clearing hides before only"),
+        (Variant::LcePastOpen, "wrong: LCE past an open load"),
+        (Variant::OldEndsKept, "wrong: old ends after rollback"),
+    ] {
+        let (_, case) = CASES.into_iter().find(|(name, _)| *name == named).expect("a case of that name");
+        choose(Some(variant));
+        let told = catch_unwind(case);
+        choose(None);
+        assert!(!matches!(told, Ok(Ok(()))), "{variant:?} is not told by its case");
+        assert_eq!(case(), Ok(()));
+    }
+}

@@ -1,0 +1,83 @@
+//! Which rows a reader is shown, and the bits of a scan (01, "Who sees a row").
+
+use crate::partition::{Entry, CLEARING};
+use crate::txn::RwTxn;
+use crate::variant::{wrong, Variant};
+
+/// Who scans: a load by its epoch or a page by its ticket.
+#[derive(Clone, Copy, Debug, PartialEq, Eq)]
+pub enum Reader {
+    Rw(u64),
+    Ro(u64),
+}
+
+/// What an open reader knows: a load its epoch and deps, a page its epoch.
+#[derive(Clone, Copy, Debug)]
+pub enum View<'a> {
+    Rw(&'a RwTxn),
+    Ro(u64),
+}
+
+impl View<'_> {
+    /// Whether rows of epoch j can be seen at all.
+    pub fn sees(&self, j: u64) -> bool {
+        match self {
+            View::Rw(txn) => j == txn.epoch || j < txn.epoch && !txn.deps().contains(&j),
+            View::Ro(epoch) => j <= *epoch,
+        }
+    }
+
+    /// Whether a clearing of epoch k applies.
+    pub fn applies(&self, k: u64) -> bool {
+        match self {
+            View::Rw(txn) if wrong(Variant::LoadAppliesOwnClear) => self.sees(k) && k <= txn.epoch,
+            View::Rw(txn) => self.sees(k) && k < txn.epoch,
+            View::Ro(epoch) if wrong(Variant::PageAppliesBelowOnly) => k < *epoch,
+            View::Ro(epoch) => k <= *epoch,
+        }
+    }
+}
+
+/// Whether the rows of the entry at place `at` are shown. Rows in a gap below a clearing stand before it.
+pub fn shown(view: &View, entries: &[Entry], at: usize) -> bool {
+    let j = entries[at].epoch;
+    if !view.sees(j) {
+        return false;
+    }
+    for (clearing_at, clearing) in entries.iter().enumerate() {
+        if clearing.mark != CLEARING || !view.applies(clearing.epoch) {
+            continue;
+        }
+        let k = clearing.epoch;
+        let before = at <= clearing_at;
+        if j < k && (before || !wrong(Variant::ClearHidesBeforeOnly)) || j == k && before {
+            return false;
+        }
+    }
+    true
+}
+
+/// Bytes of bitmap that so many rows need.
+pub fn bytes_needed(rows: u64) -> usize {
+    rows.div_ceil(8) as usize
+}
+
+/// Writes one bit a row, row 0 lowest in byte 0; answers the count of ones. Later bytes stay.
+pub fn write_bits(view: &View, entries: &[Entry], rows: u64, bitmap: &mut [u8]) -> u64 {
+    bitmap[..bytes_needed(rows)].fill(0);
+    let mut ones = 0;
+    let mut start = 0;
+    for (at, entry) in entries.iter().enumerate() {
+        if start < entry.end && shown(view, entries, at) {
+            for row in start..entry.end {
+                bitmap[(row / 8) as usize] |= 1 << (row % 8);
+            }
+            ones += entry.end - start;
+        }
+        start = entry.end;
+    }
+    if wrong(Variant::ScanSetsUnusedBits) && !rows.is_multiple_of(8) {
+        bitmap[(rows / 8) as usize] |= 1 << (rows % 8);
+    }
+    ones
+}
