@@ -1,0 +1,51 @@
+// Epochs: the range that making new takes, and the clock's step. 01 "The books"; 004 III-B "EC".
+pub mod lent;
+
+use rules::Clock;
+ghost use mathlib.Core.Path.{_≡_};
+ghost use Rattle.epoch.specs.Epochs.{startOf};
+ghost use Rattle.epoch.specs.Ticks.{ticked};
+
+// The name of a read-write transaction (01: load).
+pub struct Epoch {
+    pub number: u64,
+}
+
+// What a starting epoch is taken for.
+pub enum Start {
+    At(Epoch),
+    OutOfRange,
+}
+
+impl Epoch {
+    pub const FIRST: Epoch = Epoch { number: 1 };
+    // rules' lastEpoch: 31 bits
+    pub const LAST: Epoch = Epoch { number: 2147483647 };
+
+    pub fn new(s: u64) -> Start
+        ensures { λ r. ⌜ r ≡ startOf s ⌝ }
+    {
+        if s < Epoch::FIRST.number {
+            return Start::OutOfRange;
+        }
+        if Epoch::LAST.number < s {
+            return Start::OutOfRange;
+        }
+        Start::At(Self { number: s })
+    }
+}
+
+// What the clock hands out, and the clock after it.
+pub struct Ticked {
+    pub epoch: u64,
+    pub clock: Clock,
+}
+
+// Hands out EC and steps it by one: the clock by value, for callers that lend nothing.
+pub fn advanced(clock: Clock) -> Ticked
+    ensures { λ r. ⌜ r ≡ ticked clock ⌝ }
+{
+    let mut c = clock;
+    let e = lent::advance(&mut c);
+    Ticked { epoch: e, clock: c }
+}

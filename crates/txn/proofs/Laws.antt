@@ -1,0 +1,9 @@
+pub mod Begin
+pub mod Close
+pub mod Cut
+pub mod Find
+pub mod Lowest
+pub mod Places
+pub mod Scan
+pub mod Settle
+pub mod Sound

@@ -1,0 +1,149 @@
+-- Elements taken out of a list, and the one that a test finds. Definitions: specs/Close.antt,
+-- specs/Find.antt.
+-- In order: the only element that passes, dropped or changed; taking out of an array in place.
+-- Assumes nothing.
+use mathlib.Core.Path.{_≡_, refl, sym, ap, subst, _∙_}
+use mathlib.Core.Bool.{Bool, true, false, not, cond}
+use mathlib.Core.List.{List, [], _∷_, _++_, map}
+use Prim.Native.Nat.{ℕ, zero, suc, _+_, _-_, _≤_, _<_}
+use native.Mathlib.Numerals.{add-one}
+use native.Mathlib.Omega.{arith}
+use lib.ListN.{length, take, drop, getD, set, replicate, length-append, length-drop, getD-replicate}
+use lib.ListN.{take-append-drop, List·getD-append}
+use lib.Seq.{drop-cons, take-suc, set-at, append-snoc, length-take-le, take-append-le, take-take}
+use lib.Seq.{drop-append-add, getD-append-add, getD-drop, getD-take}
+use Rattle.lists.specs.Lists.{keepIf, rises, pad}
+use Rattle.lists.proofs.Laws.Bools.{split}
+use Rattle.lists.proofs.Laws.Order.{rises-split}
+use Rattle.lists.proofs.Laws.Parts.{drop-pad}
+use Rattle.txn.specs.Close.{cut}
+use Rattle.txn.specs.Find.{findFrom}
+use Rattle.txn.specs.declared.find.Found.the-variants.{At}
+use Rattle.txn.proofs.Laws.Scan.{length-pad}
+
+-- ---- the only one that passes: p finds the elements numbered i, and the numbers rise
+
+module _ {A : Type 0} (p : A → Bool) (f : A → ℕ) (i : ℕ) (tells : (x : A) → p x ≡ true → f x ≡ i) (hi : ℕ) where
+  none-above : (lo : ℕ) (x : A) → i ≤ lo → lo < f x → p x ≡ false
+  none-above lo x h l = split (p x) (λ t. let e = tells x t in absurd (omega arith)) (λ n. n)
+
+  keep-all : (lo : ℕ) (xs : List A) → i ≤ lo → rises lo hi (map f xs) ≡ true → keepIf (λ x. not (p x)) xs ≡ xs
+  keep-all lo [] h r = refl
+  keep-all lo (x ∷ xs) h r = let s = rises-split lo hi (f x) (map f xs) r in let u = s .above in
+      rw (none-above lo x h u, keep-all (f x) xs (omega arith) (s .rest))
+
+  change-none : (v : A) (lo : ℕ) (xs : List A) → i ≤ lo → rises lo hi (map f xs) ≡ true
+    → map (λ x. cond (p x) v x) xs ≡ xs
+  change-none v lo [] h r = refl
+  change-none v lo (x ∷ xs) h r = let s = rises-split lo hi (f x) (map f xs) r in let u = s .above in
+      rw (none-above lo x h u, change-none v (f x) xs (omega arith) (s .rest))
+
+  module _ (v : A) where
+    found-one : (lo : ℕ) (xs : List A) (k j : ℕ) → rises lo hi (map f xs) ≡ true → findFrom p xs k ≡ At j
+        → (k ≤ j) × (keepIf (λ x. not (p x)) xs ≡ cut (j - k) (suc (j - k)) xs)
+          × (map (λ x. cond (p x) v x) xs ≡ set xs (j - k) v)
+    found-one lo [] k j r e = absurd (let z : _≡_ {A = ℕ} 0 1 = cc in omega arith)
+    found-one lo (x ∷ xs) k j r e = let s = rises-split lo hi (f x) (map f xs) r in split (p x)
+      (λ t. let q : k ≡ j = (let g = rw t at e in cc) in let z : j - k ≡ 0 = omega arith in let w = tells x t in
+        (omega arith, rw (z, t) (keep-all (f x) xs (omega arith) (s .rest)),
+          rw (z, t, change-none v (f x) xs (omega arith) (s .rest))))
+      (λ n. let ih = found-one (f x) xs (k + 1) j (s .rest) (rw n at e) in let l = ih .0 in
+        let z : j - k ≡ suc (j - (k + 1)) = omega arith in
+        (omega arith, rw (z, n, ih .1), rw (z, n, ih .2)))
+
+    pub drop-one : (lo : ℕ) (xs : List A) (j : ℕ) → rises lo hi (map f xs) ≡ true → findFrom p xs 0 ≡ At j
+        → keepIf (λ x. not (p x)) xs ≡ cut j (suc j) xs
+    drop-one lo xs j r e = let z : j - 0 ≡ j = omega arith in rw z at (found-one lo xs 0 j r e .1)
+
+    pub change-one : (lo : ℕ) (xs : List A) (j : ℕ) → rises lo hi (map f xs) ≡ true → findFrom p xs 0 ≡ At j
+        → map (λ x. cond (p x) v x) xs ≡ set xs j v
+    change-one lo xs j r e = let z : j - 0 ≡ j = omega arith in rw z at (found-one lo xs 0 j r e .2)
+
+-- ---- taking the places from a up to b out of an array of n records, in place
+
+drop-replicate : {A : Type 0} (k n : ℕ) (z : A) → drop k (replicate n z) ≡ replicate (n - k) z
+drop-replicate zero n z = let e : n - 0 ≡ n = omega arith in rw e
+drop-replicate (suc k) zero z = let e : 0 - suc k ≡ 0 = omega arith in rw e
+drop-replicate (suc k) (suc n) z = let e : suc n - suc k ≡ n - k = omega arith in rw e (drop-replicate k n z)
+
+-- what the array holds in the end
+abbrev pub target : {A : Type 0} → A → List A → ℕ → ℕ → ℕ → List A
+target z xs n a b = pad 32 z (cut a b (take n xs))
+
+module _ {A : Type 0} (z d : A) (xs : List A) (n a b : ℕ) (len : length xs ≡ 32) (le : n ≤ 32) (ab : a ≤ b)
+    (bn : b ≤ n) where
+  used-length : length (take n xs) ≡ n
+  used-length = length-take-le n xs (omega arith)
+
+  front-length : length (take a (take n xs)) ≡ a
+  front-length = length-take-le a (take n xs) (rw used-length (omega arith))
+
+  pub cut-length : length (cut a b (take n xs)) ≡ n - (b - a)
+  cut-length = simp (length-append, front-length, length-drop, used-length) (omega arith)
+
+  target-32 : length (target z xs n a b) ≡ 32
+  target-32 = length-pad 32 z (cut a b (take n xs)) (rw cut-length (omega arith))
+
+  pub target-moved : (q : ℕ) → b + q < n → getD (target z xs n a b) (a + q) d ≡ getD xs (b + q) d
+  target-moved q h =
+      let c = cut a b (take n xs) in
+      let back : getD c (a + q) d ≡ getD (drop b (take n xs)) q d =
+            subst (λ (k : ℕ). getD c (k + q) d ≡ getD (drop b (take n xs)) q d) front-length
+              (getD-append-add (take a (take n xs)) (drop b (take n xs)) q d) in
+      List·getD-append c (replicate (32 - length c) z) d (a + q) (rw cut-length (omega arith))
+      ∙ back ∙ getD-drop b (take n xs) q d ∙ getD-take n xs (b + q) d h
+
+  pub target-clear : (q : ℕ) → n ≤ b + q → a + q < 32 → getD (target z xs n a b) (a + q) d ≡ z
+  target-clear q h l =
+      let c = cut a b (take n xs) in let k = a + q - (n - (b - a)) in
+      let e : a + q ≡ length c + k = (let w = cut-length in omega arith) in
+      ap (λ (i : ℕ). getD (target z xs n a b) i d) e ∙ getD-append-add c (replicate (32 - length c) z) k d
+      ∙ getD-replicate (32 - length c) k z d (let w = cut-length in omega arith)
+
+  pub cut-start : xs ≡ take a (target z xs n a b) ++ drop a xs
+  cut-start =
+      let c = cut a b (take n xs) in
+      let t : take a (target z xs n a b) ≡ take a xs =
+            take-append-le a c (replicate (32 - length c) z) (rw cut-length (omega arith))
+            ∙ take-append-le a (take a (take n xs)) (drop b (take n xs)) (rw front-length (omega arith))
+            ∙ take-take a a (take n xs) (omega arith) ∙ take-take a n xs (omega arith) in
+      rw t (sym (take-append-drop a xs))
+
+  pub cut-step : (j : ℕ) (v : A) → j < 32 → getD (target z xs n a b) j d ≡ v
+      → set (take j (target z xs n a b) ++ drop j xs) j v ≡ take (j + 1) (target z xs n a b) ++ drop (j + 1) xs
+  cut-step j v h e =
+      let t = target z xs n a b in
+      rw (add-one j, drop-cons xs j d (omega arith), take-suc t j d (rw target-32 h), e)
+        (set-at (take j t) (getD xs j d) (drop (suc j) xs) v j (length-take-le j t (rw target-32 (omega arith)))
+        ∙ sym (append-snoc (take j t) v (drop (suc j) xs)))
+
+  pub cut-end : xs ≡ pad 32 z (take n xs) → take n (target z xs n a b) ++ drop n xs ≡ target z xs n a b
+  cut-end tidy =
+      let c = cut a b (take n xs) in let t = target z xs n a b in
+      let g : n ≡ length c + (b - a) = (let w = cut-length in omega arith) in
+      let after : drop n t ≡ replicate (32 - length c - (b - a)) z =
+            ap (λ (k : ℕ). drop k t) g ∙ drop-append-add c (replicate (32 - length c) z) (b - a)
+            ∙ drop-replicate (b - a) (32 - length c) z in
+      let was : drop n xs ≡ replicate (32 - n) z =
+            ap (λ l. drop n l) tidy
+            ∙ subst (λ (k : ℕ). drop k (pad 32 z (take n xs)) ≡ replicate (32 - k) z) used-length
+              (drop-pad 32 z (take n xs)) in
+      let same : 32 - length c - (b - a) ≡ 32 - n = (let w = cut-length in omega arith) in
+      rw was (ap (λ (k : ℕ). take n t ++ replicate k z) (sym same) ∙ (rw (← after) (take-append-drop n t)))
+
+  -- one place of the loop: the record from gap places on, or none
+  pub cut-moves : (j : ℕ) → a ≤ j → j + (b - a) < n
+      → set (take j (target z xs n a b) ++ drop j xs) j (getD xs (j + (b - a)) d)
+        ≡ take (j + 1) (target z xs n a b) ++ drop (j + 1) xs
+  cut-moves j h l =
+      let q = j - a in let e : a + q ≡ j = omega arith in let g : b + q ≡ j + (b - a) = omega arith in
+      cut-step j (getD xs (j + (b - a)) d) (omega arith)
+        (sym (ap (λ (k : ℕ). getD (target z xs n a b) k d) e) ∙ target-moved q (omega arith)
+          ∙ ap (λ (k : ℕ). getD xs k d) g)
+
+  pub cut-clears : (j : ℕ) → a ≤ j → n ≤ j + (b - a) → j < 32
+      → set (take j (target z xs n a b) ++ drop j xs) j z ≡ take (j + 1) (target z xs n a b) ++ drop (j + 1) xs
+  cut-clears j h l k =
+      let q = j - a in let e : a + q ≡ j = omega arith in
+      cut-step j z k (sym (ap (λ (i : ℕ). getD (target z xs n a b) i d) e)
+        ∙ target-clear q (omega arith) (omega arith))

@@ -1,0 +1,5 @@
+pub mod Close
+pub mod Find
+pub mod Managed
+pub mod Safe
+pub mod Sound

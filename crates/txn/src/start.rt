@@ -1,0 +1,115 @@
+// Making new and begin, in the manager. 01 "The books", first paragraph and Begin; 004 III-B "EC".
+use crate::DEPS_MAX;
+use crate::READERS_MAX;
+use crate::WRITERS_MAX;
+use crate::find::no_deps;
+use rules::Clock;
+use rules::Deps;
+use rules::Manager;
+use rules::RoTxn;
+use rules::RoTxns;
+use rules::RwTxn;
+use rules::RwTxns;
+ghost use mathlib.Core.Bool.{true};
+ghost use mathlib.Core.Path.{_≡_};
+ghost use Prim.Native.Nat.{_-_, _<_, _≤_};
+ghost use lib.ListN.{take};
+ghost use Rattle.rules.specs.Limits.{lastEpoch};
+ghost use Rattle.rules.specs.Manager.{noRw, noRo, depsWith, openEpochs};
+ghost use Rattle.rules.specs.Begin.{createdManager, begunManager};
+ghost use Rattle.rules.specs.WellFormed.{managerOk};
+
+// What stands in an unused place.
+pub(crate) fn no_rw() -> RwTxn
+    ensures { λ r. ⌜ r ≡ noRw ⌝ }
+{
+    let d = no_deps();
+    RwTxn {
+        epoch: 0,
+        waiting: 0,
+        deps: d,
+    }
+}
+
+pub(crate) fn no_ro() -> RoTxn
+    ensures { λ r. ⌜ r ≡ noRo ⌝ }
+{
+    RoTxn {
+        ticket: 0,
+        epoch: 0,
+    }
+}
+
+pub(crate) fn predecessor(s: u64) -> u64
+    ensures { λ r. ⌜ r ≡ s - 1 ⌝ }
+{
+    if s == 0 { 0 } else { s - 1 }
+}
+
+// The manager that making new leaves, whatever s is; whether s names an epoch is Epoch::new's to say.
+pub fn created(s: u64) -> Manager
+    ensures { λ r. ⌜ r ≡ createdManager s ⌝ }
+{
+    let base = predecessor(s);
+    let t = no_rw();
+    let p = no_ro();
+    let ts = [t; WRITERS_MAX];
+    let ps = [p; READERS_MAX];
+    Manager {
+        clock: Clock {
+            ec: s,
+            lce: base,
+            lse: base,
+        },
+        writers: RwTxns { at: ts, count: 0 },
+        readers: RoTxns {
+            at: ps,
+            count: 0,
+            next: 1,
+        },
+    }
+}
+
+// The epochs of the open transactions, in order: the deps of one that begins now.
+fn open_deps(ts: RwTxns) -> Deps
+    requires { ⌜ ts .count < 32 ⌝ }
+    ensures { λ r. ⌜ r ≡ depsWith (openEpochs (take (ts .count) (ts .at))) ⌝ }
+{
+    let n = ts.count;
+    let mut at = [0u64; DEPS_MAX];
+    let mut k: usize = 0;
+    let mut j: usize = 0;
+    while j < n {
+        if ts.at[j].waiting == 0 {
+            at[k] = ts.at[j].epoch;
+            k += 1;
+        }
+        j += 1;
+    }
+    Deps { at: at, count: k }
+}
+
+// The clock hands out EC and steps it by one; the transaction of that epoch is open.
+pub(crate) fn begun(m: Manager) -> Manager
+    requires { ⌜ managerOk m ≡ true ⌝ }
+    requires { ⌜ m .writers .count < 32 ⌝ }
+    requires { ⌜ m .clock .ec ≤ lastEpoch ⌝ }
+    ensures { λ r. ⌜ r ≡ begunManager m ⌝ }
+{
+    let clock = m.clock;
+    let tick = epoch::advanced(clock);
+    let next = tick.clock;
+    let mut ts = m.writers;
+    let n = ts.count;
+    let d = open_deps(ts);
+    ts.at[n] = RwTxn {
+        epoch: tick.epoch,
+        waiting: 0,
+        deps: d,
+    };
+    ts.count = n + 1;
+    let mut b = m;
+    b.clock = next;
+    b.writers = ts;
+    b
+}
