@@ -1,0 +1,12 @@
+pub mod Again
+pub mod Calls
+pub mod Change
+pub mod Lists
+pub mod Look0
+pub mod Look1
+pub mod Picks
+pub mod Rewrite1
+pub mod Rewrite2
+pub mod Saves
+pub mod Scan
+pub mod Shown

@@ -1,0 +1,118 @@
+-- Laws of inRange, appendAt, appendPlan and clearPlan, case by case as code goes through them.
+-- Definitions: specs/Append.antt.
+-- Assumes nothing.
+use mathlib.Core.Path.{_≡_}
+use mathlib.Core.Bool.{true, false}
+use mathlib.Core.List.{List}
+use Prim.Native.Nat.{ℕ, _+_, _-_, _*_, _≤_, _<_}
+use native.Mathlib.Omega.{arith}
+use lib.ListN.{getD}
+use lib.Dec.{ltb, leb}
+use borrow.Author.Tests.{ltb-true, leb-true, lt-ltb, le-ltb, le-leb, lt-leb, eq-eqb, ne-eqb}
+use Rattle.lists.proofs.Laws.Tests.{and-three}
+use Rattle.rules.specs.Limits.{areasMax, rowsMax, entriesMax}
+use Rattle.rules.specs.declared.Entry.{Entry}
+use Rattle.rules.specs.declared.Partition.{Partition}
+use Rattle.partition.specs.Append.{inRange, noEntry, fullIf, stays, grows, keptIn, appendAt, appendPlan}
+use Rattle.partition.specs.Append.{clearPlan}
+use Rattle.partition.specs.declared.Plan.{Plan}
+
+-- ---- words in range
+
+pub record Within (q : Partition) : Type 0 where
+  pub area : q .area < areasMax
+  pub rows : q .rows ≤ rowsMax
+  pub entries : q .entries ≤ entriesMax
+
+pub within : (q : Partition) → inRange q ≡ true → Within q
+unfolding inRange
+within q h = let p = and-three (ltb (q .area) areasMax) (leb (q .rows) rowsMax) (leb (q .entries) entriesMax) h in
+    record { area = ltb-true (q .area) areasMax (p .0); rows = leb-true (q .rows) rowsMax (p .1);
+      entries = leb-true (q .entries) entriesMax (p .2) }
+
+pub inRange-within : (q : Partition) → Within q → inRange q ≡ true
+unfolding inRange
+inRange-within q w = rw (lt-ltb (q .area) areasMax (w .area), le-leb (q .rows) rowsMax (w .rows))
+    (le-leb (q .entries) entriesMax (w .entries))
+
+module _ (q : Partition) where
+  pub inRange-area : areasMax ≤ q .area → inRange q ≡ false
+  unfolding inRange
+  inRange-area h = rw (le-ltb (q .area) areasMax h)
+
+  pub inRange-rows : q .area < areasMax → rowsMax < q .rows → inRange q ≡ false
+  unfolding inRange
+  inRange-rows a h = rw (lt-ltb (q .area) areasMax a, lt-leb (q .rows) rowsMax h)
+
+  pub inRange-entries : q .area < areasMax → q .rows ≤ rowsMax → inRange q ≡ leb (q .entries) entriesMax
+  unfolding inRange
+  inRange-entries a h = rw (lt-ltb (q .area) areasMax a, le-leb (q .rows) rowsMax h)
+
+-- ---- append
+
+module _ (n : ℕ) (q : Partition) (i k : ℕ) where
+  pub appendAt-rows : rowsMax - q .rows < k → appendAt n q i k ≡ stays (fullIf true (leb entriesMax n)) q
+  unfolding appendAt
+  appendAt-rows h = rw (lt-ltb (rowsMax - q .rows) k h)
+
+  pub appendAt-entries : k ≤ rowsMax - q .rows → entriesMax ≤ n → appendAt n q i k ≡ stays (fullIf false true) q
+  unfolding appendAt
+  appendAt-entries h e = rw (le-ltb (rowsMax - q .rows) k h, le-leb entriesMax n e)
+
+  -- the entry and the rows that are written
+  abbrev pub placed : Plan
+  placed = record { full = fullIf false false;
+    index = entriesMax * q .area + n; entry = record { epoch = i; end = q .rows + k; mark = 0 };
+    row = rowsMax * q .area + q .rows; rows = q .rows + k; entries = n + 1 }
+
+  pub appendAt-fits : k ≤ rowsMax - q .rows → n < entriesMax → appendAt n q i k ≡ placed
+  unfolding appendAt
+  appendAt-fits h e = rw (le-ltb (rowsMax - q .rows) k h, lt-leb entriesMax n e)
+
+module _ (entries : List Entry) (q : Partition) (i k : ℕ) where
+  pub appendPlan-out : inRange q ≡ false → appendPlan entries q i k ≡ stays (fullIf true true) q
+  unfolding appendPlan
+  appendPlan-out f = rw f
+
+  module _ (t : inRange q ≡ true) where
+    pub appendPlan-none : k ≡ 0 → appendPlan entries q i k ≡ stays (fullIf false false) q
+    unfolding appendPlan
+    appendPlan-none h = rw (t, eq-eqb k 0 h)
+
+    module _ (some : k ≡ 0 → ⊥) where
+      pub appendPlan-kept : appendPlan entries q i k ≡ appendAt (keptIn entries q i) q i k
+      unfolding appendPlan
+      appendPlan-kept = rw (t, ne-eqb k 0 some)
+
+      pub appendPlan-first : q .entries ≡ 0 → appendPlan entries q i k ≡ appendAt 0 q i k
+      unfolding appendPlan keptIn
+      appendPlan-first h = rw (t, ne-eqb k 0 some, le-ltb 0 (q .entries) (omega arith), h)
+
+      module _ (used : q .entries ≡ 0 → ⊥) where
+        pub appendPlan-grows : grows i (getD entries (entriesMax * q .area + (q .entries - 1)) noEntry) ≡ true
+            → appendPlan entries q i k ≡ appendAt (q .entries - 1) q i k
+        unfolding appendPlan keptIn
+        appendPlan-grows g = rw (t, ne-eqb k 0 some, lt-ltb 0 (q .entries) (omega arith), g)
+
+        pub appendPlan-adds : grows i (getD entries (entriesMax * q .area + (q .entries - 1)) noEntry) ≡ false
+            → appendPlan entries q i k ≡ appendAt (q .entries) q i k
+        unfolding appendPlan keptIn
+        appendPlan-adds g = rw (t, ne-eqb k 0 some, lt-ltb 0 (q .entries) (omega arith), g)
+
+-- ---- clear
+
+module _ (q : Partition) (i : ℕ) where
+  pub clearPlan-out : inRange q ≡ false → clearPlan q i ≡ stays (fullIf true true) q
+  unfolding clearPlan
+  clearPlan-out f = rw f
+
+  module _ (t : inRange q ≡ true) where
+    pub clearPlan-full : entriesMax ≤ q .entries → clearPlan q i ≡ stays (fullIf false true) q
+    unfolding clearPlan
+    clearPlan-full h = rw (t, le-leb entriesMax (q .entries) h)
+
+    pub clearPlan-fits : q .entries < entriesMax → clearPlan q i ≡ record { full = fullIf false false;
+        index = entriesMax * q .area + q .entries; entry = record { epoch = i; end = q .rows; mark = 1 };
+        row = rowsMax * areasMax; rows = q .rows; entries = q .entries + 1 }
+    unfolding clearPlan
+    clearPlan-fits h = rw (t, lt-leb entriesMax (q .entries) h)

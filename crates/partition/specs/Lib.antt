@@ -1,0 +1,4 @@
+pub mod Append
+pub mod Areas
+pub mod Rows
+pub mod Sound

@@ -1,0 +1,146 @@
+// What append and clear write: one entry, and a batch of rows behind the partition's last. 01 "Lots", Append, Clear.
+use crate::Full;
+use crate::Plan;
+use lent::Table;
+use crate::limits::AREAS;
+use crate::limits::ENTRIES;
+use crate::limits::ROWS;
+use rules::Entry;
+use rules::Partition;
+ghost use mathlib.Core.Path.{_≡_};
+ghost use Prim.Native.Nat.{_≤_, _<_};
+ghost use Rattle.rules.specs.Limits.{areasMax, rowsMax, entriesMax};
+ghost use Rattle.partition.specs.Append.{inRange, grows, fullIf, stays, appendAt, appendPlan, clearPlan};
+
+// An area of the nine, at most 512 rows and 64 entries.
+fn in_range(q: Partition) -> bool
+    ensures { λ r. ⌜ r ≡ inRange q ⌝ }
+{
+    if AREAS <= q.area {
+        return false;
+    }
+    if ROWS < q.rows {
+        return false;
+    }
+    q.entries <= ENTRIES
+}
+
+// Nothing is written: there is no room for the rows or for an entry, or nothing to write.
+fn stay(q: Partition, rows: bool, entries: bool) -> Plan
+    ensures { λ r. ⌜ r ≡ stays (fullIf rows entries) q ⌝ }
+{
+    Plan {
+        full: Full { rows, entries },
+        index: ENTRIES * AREAS,
+        entry: Entry {
+            epoch: 0,
+            end: 0,
+            mark: 0,
+        },
+        row: ROWS * AREAS,
+        rows: q.rows,
+        entries: q.entries,
+    }
+}
+
+// The end of a rows entry of the same transaction moves.
+fn does_grow(last: Entry, i: u64) -> bool
+    ensures { λ r. ⌜ r ≡ grows i last ⌝ }
+{
+    if last.mark == 1 {
+        return false;
+    }
+    last.epoch == i
+}
+
+// k rows of transaction i; the partition's first n entries stay as they are.
+fn append_at(n: usize, q: Partition, i: u64, k: usize) -> Plan
+    requires { ⌜ (q .area < areasMax) × (q .rows ≤ rowsMax) × (n ≤ entriesMax) ⌝ }
+    ensures { λ r. ⌜ r ≡ appendAt n q i k ⌝ }
+{
+    if ROWS - q.rows < k {
+        return stay(q, true, ENTRIES <= n);
+    }
+    if ENTRIES <= n {
+        return stay(q, false, true);
+    }
+    let area = q.area;
+    let index = ENTRIES * area + n;
+    let row = ROWS * area + q.rows;
+    let end = q.rows + k;
+    let entries = n + 1;
+    let full = Full {
+        rows: false,
+        entries: false,
+    };
+    let entry = Entry {
+        epoch: i,
+        end,
+        mark: 0,
+    };
+    Plan {
+        full,
+        index,
+        entry,
+        row,
+        rows: end,
+        entries,
+    }
+}
+
+// What an append of k rows by transaction i writes. Words out of range are taken for a full partition.
+pub fn append_plan(t: Table, q: Partition, i: u64, k: usize) -> Plan
+    ensures { λ r. ⌜ r ≡ appendPlan (t .at) q i k ⌝ }
+{
+    if !in_range(q) {
+        return stay(q, true, true);
+    }
+    if k == 0 {
+        return stay(q, false, false);
+    }
+    let n = q.entries;
+    if n == 0 {
+        return append_at(0, q, i, k);
+    }
+    let area = q.area;
+    let last = t.at[ENTRIES * area + (n - 1)];
+    if does_grow(last, i) {
+        return append_at(n - 1, q, i, k);
+    }
+    append_at(n, q, i, k)
+}
+
+// What a clearing by transaction i writes: always one entry.
+pub fn clear_plan(q: Partition, i: u64) -> Plan
+    ensures { λ r. ⌜ r ≡ clearPlan q i ⌝ }
+{
+    if !in_range(q) {
+        return stay(q, true, true);
+    }
+    if ENTRIES <= q.entries {
+        return stay(q, false, true);
+    }
+    let n = q.entries;
+    let area = q.area;
+    let index = ENTRIES * area + n;
+    let row = ROWS * AREAS;
+    let end = q.rows;
+    let entries = n + 1;
+    let full = Full {
+        rows: false,
+        entries: false,
+    };
+    let entry = Entry {
+        epoch: i,
+        end,
+        mark: 1,
+    };
+    Plan {
+        full,
+        index,
+        entry,
+        row,
+        rows: end,
+        entries,
+    }
+}

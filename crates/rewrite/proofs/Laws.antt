@@ -1,0 +1,13 @@
+pub mod Places
+pub mod Area
+pub mod Tests
+pub mod Top
+pub mod Plan
+pub mod Ends
+pub mod Back
+pub mod Keep
+pub mod Kept
+pub mod Over
+pub mod Copied
+pub mod Blank
+pub mod Store

@@ -1,0 +1,17 @@
+-- `rewrite::delete::hides` meets its contract, by the order of the two epochs.
+-- Assumes nothing.
+use borrow.Author.Tests.{lt-ltb, le-ltb, eq-eqb, ne-eqb}
+use Rattle.rewrite.proofs.delete.hides.Statement.{statement}
+use Rattle.rewrite.proofs.delete.hides.Tie as tie
+
+returns : tie.Need-returns
+returns c = simp (lt-ltb _ _ (c .if1 .taken))
+
+returns-2 : tie.Need-returns-2
+returns-2 c = simp (le-ltb _ _ (c .before .before .if1 .left), ne-eqb _ _ (c .if2 .taken))
+
+returns-3 : tie.Need-returns-3
+returns-3 c = simp (le-ltb _ _ (c .before .before .before .if1 .left), eq-eqb _ _ (c .before .if2 .left))
+
+pub hides-spec : {M : Type 1} → statement M
+hides-spec = tie.close (tie.spec returns returns-2 returns-3)

@@ -1,0 +1,27 @@
+-- The entries of an area as spans, whatever the words: what a rewrite decides needs only their number. 01
+-- "Lots".
+-- In order: entriesIn, noEntry, bareSpan, bare. Laws: proofs/Laws/Bare.antt.
+-- Assumes nothing.
+use mathlib.Core.List.{List, [], _∷_}
+use Prim.Native.Nat.{ℕ, _-_}
+use lib.ListN.{take, replicate}
+use Rattle.rules.specs.declared.Entry.{Entry}
+use Rattle.rules.specs.Span.{Span}
+use Rattle.rewrite.specs.declared.Area.{Area}
+
+-- the entries in use, at most 64
+abbrev pub entriesIn : Area → List Entry
+entriesIn a = take (a .count) (a .at)
+
+-- what stands in a place that is not in use
+abbrev pub noEntry : Entry
+noEntry = record { epoch = 0; end = 0; mark = 0 }
+
+-- an entry with k rows, all 0
+abbrev pub bareSpan : ℕ → Entry → Span
+bareSpan k e = record { epoch = e .epoch; mark = e .mark; words = replicate k 0 }
+
+-- the spans of entries whose first begins at row n
+unfoldable pub bare : ℕ → List Entry → List Span
+bare n [] = []
+bare n (e ∷ es) = bareSpan (e .end - n) e ∷ bare (e .end) es

@@ -1,0 +1,5 @@
+pub mod Bare
+pub mod Plan
+pub mod Kept
+pub mod Copied
+pub mod Passes

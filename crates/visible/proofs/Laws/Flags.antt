@@ -1,0 +1,79 @@
+-- The flags of entries are those of their spans over any words. Definitions: specs/Flags.antt.
+-- In order: flags go by the words' number alone; bare entries; the law; the count of flags; the flags by the
+-- greatest delete.
+-- Assumes nothing.
+use mathlib.Core.Path.{_≡_, refl}
+use mathlib.Core.Bool.{Bool, true}
+use mathlib.Core.List.{List, [], _∷_, map}
+use Prim.Native.Nat.{ℕ, _-_}
+use native.Mathlib.Omega.{arith}
+use lib.ListN.{length, take, drop, replicate, length-drop, length-replicate}
+use lib.Seq.{length-take-le}
+use Rattle.lists.specs.Lists.{anyOf}
+use Rattle.rules.specs.declared.Entry.{Entry}
+use Rattle.rules.specs.Span.{Span, spans}
+use Rattle.rules.specs.Hides.{hidden, flagsIn, flags}
+use Rattle.rules.specs.WellFormed.{endsOk}
+use Rattle.rules.proofs.Laws.Span.{end-ok, endsOk-le, words-spans}
+use Rattle.rules.proofs.Laws.Hides.{length-flags}
+use Rattle.rules.proofs.Laws.TopDelete.{topDelete, flagsBy, flags-top}
+use Rattle.visible.specs.Flags.{bare, flagsOf}
+
+-- ---- flags go by the words' number alone
+
+-- as many rows, all 0
+abbrev blank : Span → Span
+blank s = record { epoch = s .epoch; mark = s .mark; words = replicate (length (s .words)) 0 }
+
+any-map : (f : Span → Span) (p : Span → Bool) (ss : List Span) → anyOf p (map f ss) ≡ anyOf (λ s. p (f s)) ss
+any-map f p [] = refl
+any-map f p (s ∷ ss) = rw (any-map f p ss)
+
+module _ (s a : ℕ → Bool) where
+  hidden-blank : (all rest : List Span) (j : ℕ)
+      → hidden a (map blank all) (map blank rest) j ≡ hidden a all rest j
+  unfolding hidden
+  hidden-blank all rest j = rw (any-map blank _ all, any-map blank _ rest)
+
+  flagsIn-blank : (all ss : List Span) → flagsIn s a (map blank all) (map blank ss) ≡ flagsIn s a all ss
+  unfolding flagsIn
+  flagsIn-blank all [] = refl
+  flagsIn-blank all (t ∷ ss) =
+      rw (
+        length-replicate {A = ℕ} (length (t .words)) 0,
+        hidden-blank all (t ∷ ss) (t .epoch),
+        flagsIn-blank all ss,
+      )
+
+  flags-blank : (ss : List Span) → flags s a (map blank ss) ≡ flags s a ss
+  unfolding flags
+  flags-blank ss = flagsIn-blank ss ss
+
+-- ---- bare entries
+
+blank-spans : (rows n : ℕ) (es : List Entry) (ws : List ℕ) → endsOk rows n es ≡ true → length ws ≡ rows - n
+    → map blank (spans n es ws) ≡ bare n es
+unfolding spans bare
+blank-spans rows n [] ws h l = refl
+blank-spans rows n (e ∷ es) ws h l =
+    let c = end-ok rows n e es h in let g = endsOk-le rows (e .end) es (c .rest) in
+    let k : length (take (e .end - n) ws) ≡ e .end - n = length-take-le (e .end - n) ws (omega arith) in
+    rw (k, blank-spans rows (e .end) es (drop (e .end - n) ws) (c .rest) (simp length-drop (omega arith)))
+
+module _ (s a : ℕ → Bool) (rows : ℕ) (es : List Entry) (ends : endsOk rows 0 es ≡ true) where
+  -- the flags of a partition's spans are those of its entries
+  pub flags-entries : (ws : List ℕ) → length ws ≡ rows → flagsOf s a es ≡ flags s a (spans 0 es ws)
+  unfolding flagsOf
+  flags-entries ws l = rw (← blank-spans rows 0 es ws ends (omega arith)) (flags-blank s a (spans 0 es ws))
+
+  -- one flag a row
+  pub length-flagsOf : length (flagsOf s a es) ≡ rows
+  length-flagsOf = let ws : List ℕ = replicate rows 0 in let l = length-replicate {A = ℕ} rows 0 in
+      rw (flags-entries ws l, length-flags s a (spans 0 es ws), words-spans rows 0 es ws ends (omega arith)) l
+
+-- ---- by the greatest delete
+
+pub flagsOf-top : (s a : ℕ → Bool) (es : List Entry)
+    → flagsOf s a es ≡ flagsBy s (topDelete a (bare 0 es)) 0 (bare 0 es)
+unfolding flagsOf
+flagsOf-top s a es = flags-top s a (bare 0 es)

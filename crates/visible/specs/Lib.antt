@@ -1,0 +1,4 @@
+pub mod View
+pub mod Flags
+pub mod Passes
+pub mod Scan

@@ -1,0 +1,35 @@
+-- What a scan answers and writes, for all input. 01 "Who sees a row", last paragraph.
+-- In order: scanOk, viewFlags, scanned, bitmapScanned.
+-- Assumes nothing.
+use mathlib.Core.Bool.{Bool, _&&_, cond}
+use mathlib.Core.List.{List}
+use Prim.Native.Nat.{ℕ}
+use lib.Dec.{leb}
+use lib.ListN.{length}
+use Rattle.lists.specs.Lists.{ones}
+use Rattle.rules.specs.declared.Entry.{Entry}
+use Rattle.rules.specs.Limits.{rowsMax}
+use Rattle.rules.specs.Bitmap.{bytesFor, bitmapAfter}
+use Rattle.rules.specs.WellFormed.{endsOk}
+use Rattle.visible.specs.declared.View.{View}
+use Rattle.visible.specs.declared.Table.{Table}
+use Rattle.visible.specs.declared.Scanned.{Scanned}
+use Rattle.visible.specs.View.{seesView, appliesView}
+use Rattle.visible.specs.Flags.{entriesIn, flagsOf}
+
+-- the ends are those of so many rows, which a partition can have, and the lent bytes are enough
+unfoldable pub scanOk : Table → ℕ → List ℕ → Bool
+scanOk t rows lent = endsOk rows 0 (entriesIn t) && (leb rows rowsMax && leb (bytesFor rows) (length lent))
+
+-- the flags of a reader
+abbrev pub viewFlags : View → List Entry → List Bool
+viewFlags v es = flagsOf (seesView v) (appliesView v) es
+
+abbrev pub tableFlags : View → Table → List Bool
+tableFlags v t = viewFlags v (entriesIn t)
+
+unfoldable pub scanned : View → Table → ℕ → List ℕ → Scanned
+scanned v t rows lent = record { ones = cond (scanOk t rows lent) (ones (tableFlags v t)) 0 }
+
+unfoldable pub bitmapScanned : View → Table → ℕ → List ℕ → List ℕ
+bitmapScanned v t rows lent = cond (scanOk t rows lent) (bitmapAfter (tableFlags v t) lent) lent

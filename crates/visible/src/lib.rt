@@ -1,0 +1,66 @@
+// Who sees a row, and what a scan writes. 01 "Who sees a row"; 004 III-C 3.
+use crate::ends::ends_ok;
+use crate::pack::bytes_for;
+use crate::places::in_use;
+use crate::write::write;
+use rules::Deps;
+use rules::Entry;
+
+mod delete;
+mod ends;
+pub mod pack;
+mod places;
+mod rows;
+pub mod sees;
+mod write;
+
+ghost use mathlib.Core.Path.{_≡_};
+ghost use Rattle.visible.specs.Scan.{scanned, bitmapScanned};
+
+// The rows and the entries that a partition has room for: rules' rowsMax and entriesMax.
+const ROWS_MAX: usize = 512;
+
+const ENTRIES_MAX: usize = 64;
+
+// The entries of one partition (01: lot), those in use first.
+#[repr(C)]
+pub struct Table {
+    pub at: [Entry; 64],
+    pub count: usize,
+}
+
+// A reader: rw is 1 for a read-write transaction (01: load) of this epoch with these deps; else it is a
+// read-only one (01: page) at this epoch, and the deps are not read.
+#[repr(C)]
+pub struct View {
+    pub epoch: u64,
+    pub rw: u64,
+    pub deps: Deps,
+}
+
+// How many rows the reader is shown.
+#[repr(C)]
+pub struct Scanned {
+    pub ones: usize,
+}
+
+// A bit a row: whether the reader is shown it. Where the ends are not those of so many rows, there are more
+// rows than a partition has, or the bitmap is shorter than they need, nothing is written and the count is 0.
+pub fn scan(v: View, t: Table, rows: usize, bitmap: &mut [u8]) -> Scanned
+    ensures answer { λ r. ⌜ r ≡ scanned v t rows (now (bitmap .entry)) ⌝ }
+    ensures words { λ _. ⌜ now (bitmap .exit) ≡ bitmapScanned v t rows (now (bitmap .entry)) ⌝ }
+{
+    let n = in_use(t.count, ENTRIES_MAX);
+    if !ends_ok(t, n, rows) {
+        return Scanned { ones: 0 };
+    }
+    if ROWS_MAX < rows {
+        return Scanned { ones: 0 };
+    }
+    if bitmap.len() < bytes_for(rows) {
+        return Scanned { ones: 0 };
+    }
+    Scanned {
+        ones: write(v, t, n, rows, bitmap),
+    }
+}

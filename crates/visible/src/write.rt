@@ -1,0 +1,31 @@
+// A scan whose input is right: the greatest delete, a flag a row, then a bit a row. 01 "Who sees a row".
+use crate::ROWS_MAX;
+use crate::Table;
+use crate::View;
+use crate::delete::find_top;
+use crate::pack::bytes_for;
+use crate::pack::pack;
+use crate::rows::show_front;
+ghost use mathlib.Core.Path.{_≡_};
+ghost use mathlib.Core.Bool.{true};
+ghost use Prim.Native.Nat.{_≤_};
+ghost use lib.ListN.{length, take};
+ghost use Rattle.lists.specs.Lists.{ones};
+ghost use Rattle.rules.specs.Limits.{rowsMax, entriesMax};
+ghost use Rattle.rules.specs.Bitmap.{bytesFor, bitmapAfter};
+ghost use Rattle.rules.specs.WellFormed.{endsOk};
+ghost use Rattle.visible.specs.Scan.{viewFlags};
+
+// The first n entries; answers how many rows are shown.
+pub(crate) fn write(v: View, t: Table, n: usize, rows: usize, bitmap: &mut [u8]) -> usize
+    requires { ⌜ (n ≤ entriesMax) × (rows ≤ rowsMax) × (endsOk rows 0 (take n (t .at)) ≡ true)
+        × (bytesFor rows ≤ length (now bitmap)) ⌝ }
+    ensures { λ r. ⌜ (r ≡ ones (viewFlags v (take n (t .at))))
+        × (now (bitmap .exit) ≡ bitmapAfter (viewFlags v (take n (t .at))) (now (bitmap .entry))) ⌝ }
+{
+    let top = find_top(v, t, n);
+    let mut shown = [false; ROWS_MAX];
+    let ones = show_front(v, t, n, rows, top, &mut shown);
+    pack(&shown, bytes_for(rows), bitmap);
+    ones
+}
