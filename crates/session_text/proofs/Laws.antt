@@ -1,0 +1,6 @@
+pub mod Over
+pub mod Print
+pub mod Lines
+pub mod Grammar
+pub mod Numbers
+pub mod Calls

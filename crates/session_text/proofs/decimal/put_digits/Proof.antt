@@ -1,0 +1,89 @@
+-- `session_text::decimal::put_digits` meets its contract. The invariant: what is left to write are the
+-- digits of the rest, and they end before `end`. The measure is the rest.
+-- Assumes nothing.
+use mathlib.Core.Path.{_≡_, refl, sym, _∙_, ap}
+use Prim.Native.Nat.{_+_, _-_, _/_, _≤_, _<_, _^_}
+use native.Mathlib.Omega.{arith}
+use lib.ListN.{length, length-set}
+use Rattle.lists.specs.Lists.{over}
+use Rattle.session_text.specs.Print.{decimal}
+use Rattle.session_text.proofs.Laws.Print.{decimal-some, length-large, put-next, put-last}
+use borrow.Author.Needs.{needs}
+use Rattle.session_text.proofs.decimal.put_digits.Statement.{statement}
+use Rattle.session_text.proofs.decimal.put_digits.Tie as tie
+
+abbrev Inv-loop : tie.InvT-loop
+Inv-loop n out₀ at count end₀ rest₀ out end rest = (rest < 2 ^ 64) × (length out ≡ length out₀) × (end ≤ length out)
+    × (end ≡ at + length (decimal rest)) × (over at (decimal n) out₀ ≡ over at (decimal rest) out)
+
+abbrev μ-loop : tie.MeasureT-loop
+μ-loop n out₀ at count end₀ rest₀ out end rest = rest
+
+add-end : tie.Need-add-end Inv-loop μ-loop
+add-end c = search needs
+
+loop-holds : tie.Need-loop-holds Inv-loop μ-loop
+loop-holds c = search needs
+
+sub-end : tie.Need-sub-end Inv-loop μ-loop
+sub-end c = omega (arith, decimal-some (c .before .loop .rest))
+
+cast-out : tie.Need-cast-out Inv-loop μ-loop
+cast-out c = search needs
+
+add-out : tie.Need-add-out Inv-loop μ-loop
+add-out c = search needs
+
+slice-write-out : tie.Need-slice-write-out Inv-loop μ-loop
+slice-write-out c = omega (arith, decimal-some (c .before .loop .rest))
+
+loop-less : tie.Need-loop-less Inv-loop μ-loop
+loop-less c = search needs
+
+loop-again : tie.Need-loop-again Inv-loop μ-loop
+loop-again c = let l = c .before .loop in let a = c .before .before .args in let n = l .rest in
+    let one = length-large n (c .loop-test .taken) (l .inv .0) in
+    let e : l .end - 1 ≡ a .at + length (decimal (n / 10)) = omega arith in (
+  omega arith,
+  search needs,
+  simp length-set (omega arith),
+  e,
+  rw e (l .inv .4 ∙ put-next (a .at) n (l .out) (c .loop-test .taken) (l .inv .0) (omega arith)),
+)
+
+cast-out-2 : tie.Need-cast-out-2 Inv-loop μ-loop
+cast-out-2 c = search needs
+
+add-out-2 : tie.Need-add-out-2 Inv-loop μ-loop
+add-out-2 c = search needs
+
+slice-write-out-2 : tie.Need-slice-write-out-2 Inv-loop μ-loop
+slice-write-out-2 c = omega (arith, decimal-some (c .before .loop .rest))
+
+same-length : tie.Need-same-length Inv-loop μ-loop
+same-length c = search needs
+
+returns : tie.Need-returns Inv-loop μ-loop
+returns c = let l = c .before .loop in let a = c .before .before .args in
+    sym (l .inv .4 ∙ put-last (a .at) (l .rest) (l .out) (c .loop-test .left)
+      (omega (arith, decimal-some (l .rest))))
+
+pub put-digits-spec : {M : Type 1} → statement M
+put-digits-spec =
+    tie.close
+    (tie.spec
+    Inv-loop
+    μ-loop
+    add-end
+    loop-holds
+    sub-end
+    cast-out
+    add-out
+    slice-write-out
+    loop-less
+    loop-again
+    cast-out-2
+    add-out-2
+    slice-write-out-2
+    same-length
+    returns)

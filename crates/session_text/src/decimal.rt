@@ -1,0 +1,34 @@
+// A number as decimal digits, none of them a zero in front. 01 "A session".
+ghost use mathlib.Core.Path.{_≡_};
+ghost use Prim.Native.Nat.{_+_, _≤_};
+ghost use lib.ListN.{length};
+ghost use Rattle.lists.specs.Lists.{over};
+ghost use Rattle.session_text.specs.Print.{decimal};
+
+// How many digits n has.
+pub(crate) fn digits(n: u64) -> usize
+    ensures { λ r. ⌜ r ≡ length (decimal n) ⌝ }
+{
+    let mut count = 1;
+    let mut rest = n;
+    while 10 <= rest {
+        rest /= 10;
+        count += 1;
+    }
+    count
+}
+
+// The digits of n from index `at` on, the last written first.
+pub(crate) fn put_digits(n: u64, out: &mut [u8], at: usize, count: usize)
+    requires { ⌜ (count ≡ length (decimal n)) × (at + count ≤ length (now out)) ⌝ }
+    ensures { λ _. ⌜ now (out .exit) ≡ over at (decimal n) (now (out .entry)) ⌝ }
+{
+    let mut end = at + count;
+    let mut rest = n;
+    while 10 <= rest {
+        end -= 1;
+        out[end] = 48 + (rest % 10) as u8;
+        rest /= 10;
+    }
+    out[at] = 48 + rest as u8;
+}

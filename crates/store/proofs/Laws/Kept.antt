@@ -1,0 +1,90 @@
+-- What the calls by value keep is what step leaves. Definitions: specs/Kept.antt.
+-- Assumes nothing.
+use mathlib.Core.Path.{_≡_, refl, sym, _∙_}
+use mathlib.Core.Bool.{Bool, true, false, _&&_, cond}
+use mathlib.Core.List.{List}
+use Prim.Native.Nat.{ℕ, _*_}
+use lib.ListN.{length}
+use lib.Dec.{eqb}
+use borrow.Author.Tests.{eqb-true}
+use Rattle.lists.proofs.Laws.Bools.{split, and-false}
+use Rattle.lists.proofs.Laws.Tests.{and-comm}
+use Rattle.rules.specs.Limits.{rowsMax, entriesMax, areasMax}
+use Rattle.rules.specs.Begin.{begunManager}
+use Rattle.rules.specs.Close.{committedManager}
+use Rattle.rules.specs.ReadOnly.{begunRoManager, endedRoManager}
+use Rattle.rules.specs.Safe.{advancedManager}
+use Rattle.rules.specs.Answers.{accepted}
+use Rattle.rules.specs.WellFormed.{wellFormed, lengthsOk, managerOk}
+use Rattle.rules.specs.Calls.{createAnswer, beginAnswer, closeAnswer, beginRoAnswer, endRoAnswer}
+use Rattle.rules.specs.Calls.{advanceLseAnswer}
+use Rattle.rules.specs.Step.{step, create, begin, commit, beginRo, endRo, advanceLse}
+use Rattle.rules.specs.Store.{withManager, createdStore}
+use Rattle.rules.specs.declared.Answer.{Answer}
+use Rattle.rules.specs.declared.Entry.{Entry}
+use Rattle.rules.specs.declared.Manager.{Manager}
+use Rattle.rules.specs.declared.State.{State}
+use Rattle.lent.specs.Entries.{tableOf}
+use Rattle.lent.proofs.Lists.{filled-all}
+use Rattle.partition.proofs.Laws.Sound.{wellFormed-is}
+use Rattle.store.specs.Kept.{storeOf, Left, lengthsAre, restOk, freshPartitions, createKept, keptOf}
+use Rattle.store.specs.Kept.{soundOf, beginKept}
+use Rattle.store.specs.Kept.{commitKept, beginRoKept, endRoKept, advanceLseKept}
+
+-- the test by value is rules' wellFormed
+pub sound-is : (s : State) (es : List Entry) (rs : List ℕ)
+    → soundOf s (tableOf es) (length es) (length rs) ≡ wellFormed (storeOf s rs es)
+unfolding restOk lengthsAre lengthsOk
+sound-is s es rs = split (eqb (length es) (entriesMax * areasMax))
+  (λ t. rw (filled-all es (eqb-true (length es) 576 t)) (sym (wellFormed-is (storeOf s rs es)
+    ∙ rw t (move (eqb (length rs) (rowsMax * areasMax)) (managerOk (s .manager)) _))))
+  (λ f. rw (wellFormed-is (storeOf s rs es), f, and-false (eqb (length rs) (rowsMax * areasMax))))
+  where
+    move : (a b c : Bool) → (a && true && b) && c ≡ (a && true && c) && b
+    move true b c = and-comm b c
+    move false b c = refl
+
+-- a call on the manager
+pub kept-left : (a : Answer) (next : Manager) (s : State) (es : List Entry) (rs : List ℕ)
+    → keptOf a next s .state ≡ (cond (accepted a) (withManager next (storeOf s rs es)) (storeOf s rs es)) .state
+kept-left a next s es rs = split (accepted a) (λ t. rw t) (λ f. rw f)
+
+pub begin-left : (s : State) (es : List Entry) (rs : List ℕ)
+    → Left (step begin (storeOf s rs es)) (beginKept s (tableOf es) (length es) (length rs))
+unfolding step
+begin-left s es rs = rw (sound-is s es rs) (refl, kept-left (beginAnswer (wellFormed (storeOf s rs es)) (s
+    .manager)) (begunManager (s .manager)) s es rs)
+
+pub commit-left : (s : State) (es : List Entry) (rs : List ℕ) (a : ℕ)
+    → Left (step (commit a) (storeOf s rs es)) (commitKept s (tableOf es) (length es) (length rs) a)
+unfolding step
+commit-left s es rs a = rw (sound-is s es rs)
+    (refl, kept-left (closeAnswer a (wellFormed (storeOf s rs es)) (s .manager) (committedManager a (s .manager)))
+        (committedManager a (s .manager)) s es rs)
+
+pub begin-ro-left : (s : State) (es : List Entry) (rs : List ℕ) (a : ℕ)
+    → Left (step (beginRo a) (storeOf s rs es)) (beginRoKept s (tableOf es) (length es) (length rs) a)
+unfolding step
+begin-ro-left s es rs a = rw (sound-is s es rs)
+    (refl, kept-left (beginRoAnswer a (wellFormed (storeOf s rs es)) (s .manager)) (begunRoManager a (s .manager))
+        s es rs)
+
+pub end-ro-left : (s : State) (es : List Entry) (rs : List ℕ) (a : ℕ)
+    → Left (step (endRo a) (storeOf s rs es)) (endRoKept s (tableOf es) (length es) (length rs) a)
+unfolding step
+end-ro-left s es rs a = rw (sound-is s es rs)
+    (refl, kept-left (endRoAnswer a (wellFormed (storeOf s rs es)) (s .manager)) (endedRoManager a (s .manager)) s
+        es rs)
+
+pub advance-lse-left : (s : State) (es : List Entry) (rs : List ℕ) (a : ℕ)
+    → Left (step (advanceLse a) (storeOf s rs es)) (advanceLseKept s (tableOf es) (length es) (length rs) a)
+unfolding step
+advance-lse-left s es rs a = rw (sound-is s es rs)
+    (refl, kept-left (advanceLseAnswer a (wellFormed (storeOf s rs es)) (s .manager)) (advancedManager a (s
+        .manager)) s es rs)
+
+pub create-left : (s : State) (es : List Entry) (rs : List ℕ) (a : ℕ)
+    → Left (step (create a) (storeOf s rs es)) (createKept s (tableOf es) (length es) (length rs) a)
+unfolding step lengthsOk lengthsAre createdStore freshPartitions
+create-left s es rs a = (refl, split (accepted (createAnswer a (lengthsOk (storeOf s rs es)))) (λ t. rw t) (λ f. rw
+    f))

@@ -1,0 +1,204 @@
+-- What a scan decides by value is what step leaves. Definitions: specs/Scan.antt.
+-- In order: a loop that copies, the bytes copied, a refusal, the bytes written, a partition's entries, a
+-- scan, the two readers.
+-- Assumes nothing.
+use mathlib.Core.Path.{_≡_, refl, sym, ap, _∙_}
+use mathlib.Core.Bool.{Bool, true, cond}
+use mathlib.Core.List.{List, [], _∷_, _++_, append-assoc, append-nil}
+use Prim.Native.Nat.{ℕ, suc, _+_, _*_, _≤_, _<_}
+use native.Mathlib.Omega.{arith}
+use lib.ListN.{length, take, drop, getD, set, replicate, length-map, drop-of-length-le}
+use lib.Seq.{drop-cons, take-suc, set-at, take-at, take-take, length-take-le}
+use lib.Dec.{ltb, leb}
+use mir.Val.{Val}
+use denote.Laws.{Is}
+use denote.Struct.Declared.{row}
+use borrow.Author.Tests.{lt-ltb, le-leb, lt-leb, ltb-true, ltb-false, leb-false}
+use Rattle.lists.specs.Lists.{ones}
+use Rattle.lists.proofs.Laws.Bools.{split, and-false}
+use Rattle.rules.specs.Limits.{partitionsMax, areasMax, rowsMax, entriesMax}
+use Rattle.rules.specs.Bitmap.{bytesFor, packed, bitmapAfter}
+use Rattle.rules.specs.Store.{entriesAt, rowsAt, spansAt}
+use Rattle.rules.specs.WellFormed.{wellFormed}
+use Rattle.rules.specs.Calls.{refuse, isReader, seesOf, appliesOf, flagsAt, scanAnswer}
+use Rattle.rules.specs.Step.{Outcome, scanOutcome, step, scan}
+use Rattle.rules.specs.declared.Answer.the-variants.{Scanned, Refused}
+use Rattle.rules.specs.declared.Refusal.{Refusal}
+use Rattle.rules.specs.declared.Refusal.the-variants.{UnknownPartition, NotOpen, ShortBitmap, Unsound}
+use Rattle.rules.specs.declared.Reader.{Reader}
+use Rattle.rules.specs.declared.Reader.the-variants.{Rw, Ro}
+use Rattle.rules.specs.declared.Entry.{Entry}
+use Rattle.rules.specs.declared.State.{State}
+use Rattle.rules.proofs.Laws.Bitmap.{length-packed}
+use Rattle.rules.proofs.Laws.Calls.{refused}
+use Rattle.rules.proofs.Laws.Hides.{length-flags}
+use Rattle.rules.proofs.Laws.SpansTest.{EntriesOk, entries-ok}
+use Rattle.rules.proofs.Laws.WellFormed.{StoreOk, store-facts}
+use Rattle.lent.specs.Entries.{none, tableOf}
+use Rattle.lent.proofs.Lists.{filled-all}
+use Rattle.visible.specs.declared.View.{View}
+use Rattle.visible.specs.View.{seesView, appliesView}
+use Rattle.visible.specs.Flags.{entriesIn}
+use Rattle.visible.specs.Scan.{scanOk, scanned, bitmapScanned}
+use Rattle.visible.proofs.Laws.Scan.{spanFlags, scan-ok, scanned-spans, bitmap-spans}
+use Rattle.store.specs.Kept.{storeOf}
+use Rattle.store.specs.Write.{partitionOf}
+use Rattle.store.specs.Scan.{Showed, noBits, refusedLook, tableAt, lookAt, rwView, roView, lookBy}
+use Rattle.store.specs.Scan.{rwLook, roLook, copied}
+use Rattle.store.specs.declared.scan.Look.{Look}
+use Rattle.store.proofs.scan.Look as look-type
+use Rattle.store.proofs.Laws.Kept.{sound-is}
+
+pub look-64 : (x : Look) (vs : List Val) → Is (row look-type.the-type) x vs → length (x .bits) ≡ 64
+look-64 x vs g = sym (length-map (x .bits) (λ v. v)) ∙ g .1 .1 .1 .0 .1 .0 .1
+
+-- an area of no entries
+unfoldable pub blank : List Entry
+blank = replicate entriesMax none
+
+pub blank-64 : length blank ≡ 64
+unfolding blank
+blank-64 = refl
+
+-- one more of xs over ys
+pub put-next : {A : Type 0} (xs ys : List A) (j : ℕ) (d : A) → j < length xs → j < length ys
+    → set (take j xs ++ drop j ys) j (getD xs j d) ≡ take (suc j) xs ++ drop (suc j) ys
+put-next xs ys j d k h =
+    rw (drop-cons ys j d h, take-suc xs j d k, append-assoc (take j xs) (getD xs j d ∷ []) (drop (suc j) ys))
+    (set-at (take j xs) (getD ys j d) (drop (suc j) ys) (getD xs j d) j (length-take-le j xs (omega arith)))
+
+-- all of ys are gone
+pub copied-all : {A : Type 0} (xs ys : List A) (n : ℕ) → length ys ≡ n → take n xs ++ drop n ys ≡ take n xs
+copied-all xs ys n l = rw (drop-of-length-le ys {i = n} (omega arith)) (append-nil (take n xs))
+
+-- an area's entries are among the 576
+pub base-fits : (area : ℕ) → cond (ltb area areasMax) (entriesMax * area) 0 + 64 ≤ 576
+base-fits area = split (ltb area areasMax)
+  (λ t. let g = ltb-true area areasMax t in rw t (omega arith)) (λ f. rw f (omega arith))
+
+-- ---- the bytes copied, by what the tests say
+
+module _ (n : ℕ) (bits lent : List ℕ) where
+  pub copied-many : 64 < n → copied n bits lent ≡ lent
+  unfolding copied
+  copied-many h = rw (lt-leb n 64 h)
+
+  pub copied-short : length lent < n → copied n bits lent ≡ lent
+  unfolding copied
+  copied-short h = rw (lt-leb n (length lent) h, and-false (leb n 64))
+
+  pub copied-fits : n ≤ 64 → n ≤ length lent → copied n bits lent ≡ take n bits ++ drop n lent
+  unfolding copied
+  copied-fits b h = rw (le-leb n 64 b, le-leb n (length lent) h)
+
+-- ---- a scan carried out, with these bytes lent
+
+abbrev pub Carried : List ℕ → Outcome → Look → Type 0
+Carried lent out w = Showed out (w .answer) (copied (w .count) (w .bits) lent)
+
+copied-none : (bits lent : List ℕ) → copied 0 bits lent ≡ lent
+unfolding copied
+copied-none bits lent = rw (le-leb 0 (length lent) (omega arith))
+
+refused-left : (r : Refusal) (s : State) (es : List Entry) (rs lent : List ℕ) (flags : List Bool)
+    → Carried lent (scanOutcome (Refused r) flags lent (storeOf s rs es)) (refusedLook r)
+refused-left r s es rs lent flags = rw (refused r) (refl, copied-none noBits lent)
+
+-- the flags' bytes in 64 of 0, copied over those lent
+copied-bits : (flags : List Bool) (lent : List ℕ) (rows : ℕ) → length flags ≡ rows → bytesFor rows ≤ 64
+    → bytesFor rows ≤ length lent → copied (bytesFor rows) (bitmapAfter flags noBits) lent ≡ bitmapAfter flags lent
+unfolding copied bitmapAfter
+copied-bits flags lent rows l b h = let n = bytesFor rows in
+    rw (le-leb n 64 b, le-leb n (length lent) h, l, take-at (packed n flags) (drop n noBits) n (length-packed n flags))
+
+bytes-fit : (rows : ℕ) → rows ≤ rowsMax → bytesFor rows ≤ 64
+unfolding bytesFor
+bytes-fit rows h = omega arith
+
+-- ---- a scan of partition p by a reader of view v
+
+module _ (s : State) (es : List Entry) (rs : List ℕ) (ok : StoreOk (storeOf s rs es)) (p : ℕ) (h : p < partitionsMax)
+    where
+  table-entries : entriesIn (tableAt es (partitionOf p s)) ≡ entriesAt p (storeOf s rs es)
+  unfolding tableAt
+  table-entries = let q = partitionOf p s in let part = ok .partition p h in let n = part .entry-count in
+      let f = part .spans-ok .entries-fit in
+      rw (lt-ltb (q .area) areasMax (ok .areas .inside p h))
+        (take-take (q .entries) entriesMax (drop (entriesMax * q .area) es) (omega arith))
+
+  entries-facts : EntriesOk (s .manager) (partitionOf p s .rows) (entriesAt p (storeOf s rs es))
+  entries-facts = let part = ok .partition p h in
+      rw (part .entries-are, ← part .row-count) at (entries-ok (s .manager) (spansAt p (storeOf s rs es)) (part .spans-ok))
+
+  scans : scanOk (tableAt es (partitionOf p s)) (partitionOf p s .rows) noBits ≡ true
+  scans = let o = entries-facts in let q = partitionOf p s in
+      scan-ok (tableAt es q) (q .rows) noBits (rw table-entries (o .ends)) (o .rows-fit)
+        (bytes-fit (q .rows) (o .rows-fit))
+
+  words : length (rowsAt p (storeOf s rs es)) ≡ partitionOf p s .rows
+  words = let part = ok .partition p h in ap length (sym (part .words-are)) ∙ sym (part .row-count)
+
+  module _ (r : Reader) (v : View) (sees : seesView v ≡ seesOf r (s .manager))
+      (applies : appliesView v ≡ appliesOf r (s .manager)) where
+    same-flags : spanFlags v (tableAt es (partitionOf p s)) (rowsAt p (storeOf s rs es)) ≡ flagsAt r p (storeOf s rs es)
+    unfolding flagsAt spansAt
+    same-flags = rw (sees, applies, table-entries)
+
+    flags-rows : length (flagsAt r p (storeOf s rs es)) ≡ partitionOf p s .rows
+    unfolding flagsAt
+    flags-rows = length-flags (seesOf r (s .manager)) (appliesOf r (s .manager)) (spansAt p (storeOf s rs es))
+        ∙ sym (ok .partition p h .row-count)
+
+    ones-are : scanned v (tableAt es (partitionOf p s)) (partitionOf p s .rows) noBits .ones
+        ≡ ones (flagsAt r p (storeOf s rs es))
+    ones-are = let q = partitionOf p s in
+        ap (λ x. x .ones) (scanned-spans v (tableAt es q) (q .rows) noBits (rowsAt p (storeOf s rs es)) scans words)
+        ∙ ap ones same-flags
+
+    bits-are : bitmapScanned v (tableAt es (partitionOf p s)) (partitionOf p s .rows) noBits
+        ≡ bitmapAfter (flagsAt r p (storeOf s rs es)) noBits
+    bits-are = let q = partitionOf p s in
+        bitmap-spans v (tableAt es q) (q .rows) noBits (rowsAt p (storeOf s rs es)) scans words
+        ∙ ap (λ f. bitmapAfter f noBits) same-flags
+
+    scan-room : (lent : List ℕ)
+        → Carried lent (scanOutcome
+          (refuse ShortBitmap (ltb (length lent) (bytesFor (partitionOf p s .rows)))
+          (Scanned (partitionOf p s .rows) (ones (flagsAt r p (storeOf s rs es)))))
+          (flagsAt r p (storeOf s rs es)) lent (storeOf s rs es))
+          (lookAt es (partitionOf p s) v (length lent))
+    unfolding lookAt
+    scan-room lent = let q = partitionOf p s in let n = bytesFor (q .rows) in let st = storeOf s rs es in
+        split (ltb (length lent) n)
+        (λ t. rw t (refused-left ShortBitmap s es rs lent (flagsAt r p st)))
+        (λ f. rw (f, ones-are, bits-are) (refl,
+          copied-bits (flagsAt r p st) lent (q .rows) flags-rows (bytes-fit (q .rows) (entries-facts .rows-fit))
+            (ltb-false (length lent) n f)))
+
+look-left : (s : State) → length (s .partitions .at) ≡ partitionsMax → (es : List Entry) (rs lent : List ℕ) (p : ℕ)
+    (r : Reader) (v : View) → seesView v ≡ seesOf r (s .manager) → appliesView v ≡ appliesOf r (s .manager)
+    → Carried lent (step (scan r p lent) (storeOf s rs es))
+      (lookBy (isReader r (s .manager)) v s (tableOf es) (length es) (length rs) (length lent) p)
+unfolding step scanAnswer
+look-left s n es rs lent p r v sees applies = let st = storeOf s rs es in let flags = flagsAt r p st in
+    rw (sound-is s es rs) (split (wellFormed st)
+  (λ t. let ok = store-facts st n t in rw (t, filled-all es (ok .entries-length)) (split (leb partitionsMax p)
+    (λ u. rw u (refused-left UnknownPartition s es rs lent flags))
+    (λ u. split (isReader r (s .manager))
+      (λ o. rw (u, o) (scan-room s es rs ok p (leb-false partitionsMax p u) r v sees applies lent))
+      (λ o. rw (u, o) (refused-left NotOpen s es rs lent flags)))))
+  (λ f. rw f (refused-left Unsound s es rs lent flags)))
+
+-- ---- the two readers
+
+module _ (s : State) (n : length (s .partitions .at) ≡ partitionsMax) (es : List Entry) (rs lent : List ℕ) (i p : ℕ)
+    where
+  pub rw-left : Carried lent (step (scan (Rw i) p lent) (storeOf s rs es))
+      (rwLook s (tableOf es) (length es) (length rs) (length lent) i p)
+  unfolding rwLook seesOf appliesOf seesView appliesView
+  rw-left = look-left s n es rs lent p (Rw i) (rwView i (s .manager)) refl refl
+
+  pub ro-left : Carried lent (step (scan (Ro i) p lent) (storeOf s rs es))
+      (roLook s (tableOf es) (length es) (length rs) (length lent) i p)
+  unfolding roLook seesOf appliesOf seesView appliesView
+  ro-left = look-left s n es rs lent p (Ro i) (roView i (s .manager)) refl refl

@@ -1,0 +1,3 @@
+pub mod Laws
+pub mod PutOne
+pub mod Types

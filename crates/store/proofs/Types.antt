@@ -1,0 +1,42 @@
+-- The crate's plans and answers, as lent's Shown takes them.
+-- Assumes nothing.
+use mathlib.Core.Path.{refl}
+use denote.Struct.Laws as LL
+use denote.Enum.Laws as EL
+use Rattle.rules.proofs.Answer as AnswerT
+use Rattle.rules.proofs.Answer.Laws as AnswerL
+use Rattle.lent.proofs.Shown.{Shown}
+use Rattle.store.proofs.Kept as KeptT
+use Rattle.store.proofs.Kept.Laws as KeptL
+use Rattle.store.proofs.scan.Look as LookT
+use Rattle.store.proofs.scan.Look.Laws as LookL
+use Rattle.store.proofs.write.Write as WriteT
+use Rattle.store.proofs.write.Write.Laws as WriteL
+
+abbrev pub kept : Shown
+kept = record {
+  row = KeptT.the-row; mir = KeptL.mir;
+  val = LL.val KeptT.the-type KeptL.the-laws; tells = LL.tells KeptT.the-type KeptL.the-laws;
+  wt = λ 𝓤 H A G z g. LL.lawful KeptT.the-type KeptL.the-laws 𝓤 H A G .typed z _ g .0; last = λ x. tt;
+  silent = λ x f. refl; makes = λ 𝓤 H A _. LL.makes KeptT.the-type KeptL.the-plain 𝓤 H A }
+
+abbrev pub write : Shown
+write = record {
+  row = WriteT.the-row; mir = WriteL.mir;
+  val = LL.val WriteT.the-type WriteL.the-laws; tells = LL.tells WriteT.the-type WriteL.the-laws;
+  wt = λ 𝓤 H A G z g. LL.lawful WriteT.the-type WriteL.the-laws 𝓤 H A G .typed z _ g .0; last = λ x. tt;
+  silent = λ x f. refl; makes = λ 𝓤 H A _. LL.makes WriteT.the-type WriteL.the-plain 𝓤 H A }
+
+abbrev pub look : Shown
+look = record {
+  row = LookT.the-row; mir = LookL.mir;
+  val = LL.val LookT.the-type LookL.the-laws; tells = LL.tells LookT.the-type LookL.the-laws;
+  wt = λ 𝓤 H A G z g. LL.lawful LookT.the-type LookL.the-laws 𝓤 H A G .typed z _ g .0; last = λ x. tt;
+  silent = λ x f. refl; makes = λ 𝓤 H A _. LL.makes LookT.the-type LookL.the-plain 𝓤 H A }
+
+abbrev pub answer : Shown
+answer = record {
+  row = AnswerT.the-row; mir = AnswerL.mir;
+  val = EL.val AnswerT.the-type AnswerL.the-laws; tells = EL.tells AnswerT.the-type AnswerL.the-laws;
+  wt = λ 𝓤 H A G z g. EL.lawful AnswerT.the-type AnswerL.the-laws 𝓤 H A G tt .typed z _ g .0; last = λ x. tt;
+  silent = λ x f. refl; makes = λ 𝓤 H A _. EL.makes AnswerT.the-type AnswerL.the-plain 𝓤 H A }

@@ -1,0 +1,48 @@
+-- `store::scan::scan_partition` meets its contract: too few bytes are refused, else the scan of the
+-- partition's entries.
+-- Assumes nothing.
+use mathlib.Core.Path.{ap, _∙_}
+use borrow.Author.Needs.{needs}
+use borrow.Author.Tests.{lt-ltb, le-ltb}
+use Rattle.rules.specs.Bitmap.{bytesFor}
+use Rattle.rules.specs.declared.Answer.the-variants.{Scanned}
+use Rattle.visible.specs.Scan.{scanned, bitmapScanned}
+use Rattle.store.specs.Scan.{noBits, lookAt}
+use Rattle.store.proofs.scan.scan_partition.Statement.{statement}
+use Rattle.store.proofs.scan.scan_partition.Tie as tie
+
+bytes-for-requires : tie.Need-bytes-for-requires
+bytes-for-requires c κs = search needs
+
+refused-requires : tie.Need-refused-requires
+refused-requires c κs = search needs
+
+returns : tie.Need-returns
+unfolding lookAt
+returns c = c .refused .ensures
+    ∙ rw (lt-ltb _ _ (rw (c .before .before .bytes-for .ensures) at (c .before .if1 .taken)))
+
+entries-of-requires : tie.Need-entries-of-requires
+entries-of-requires c κs = search needs
+
+slice-aggregate-scan : tie.Need-slice-aggregate-scan
+slice-aggregate-scan c = search needs
+
+scan-requires : tie.Need-scan-requires
+scan-requires c κs = search needs
+
+returns-2 : tie.Need-returns-2
+unfolding lookAt
+returns-2 c =
+    let e = c .before .before .before in let f = e .before in let n = f .before .bytes-for in
+    let a = f .before .before .args in let r = c .before .scan .ensures in
+    let ones = ap (λ x. x .ones) (r .0) ∙ ap (λ x. scanned (a .v) x (a .q .rows) noBits .ones) (e .entries-of .ensures) in
+    let bits = r .1 ∙ ap (λ x. bitmapScanned (a .v) x (a .q .rows) noBits) (e .entries-of .ensures) in
+    rw (le-ltb (a .k) (bytesFor (a .q .rows)) (rw (n .ensures) at (f .if1 .left)))
+      (λ j. record { answer = Scanned (a .q .rows) (ones j); bits = bits j; count = (n .ensures) j })
+
+pub scan-partition-spec : {M : Type 1} → statement M
+scan-partition-spec =
+    tie.close
+    (tie.spec bytes-for-requires refused-requires returns entries-of-requires slice-aggregate-scan scan-requires
+      returns-2)

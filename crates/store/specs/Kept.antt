@@ -1,0 +1,86 @@
+-- What a call by value keeps, and what a public call leaves, beside rules' step. 01 "Refusals": 5 by the
+-- whole of *sound*.
+-- In order: storeOf, Left, restOk, the calls on the manager. Laws: proofs/Laws/Kept.antt.
+-- Assumes nothing.
+use mathlib.Core.Path.{_≡_}
+use mathlib.Core.Bool.{Bool, _&&_, cond}
+use mathlib.Core.List.{List, []}
+use Prim.Native.Nat.{ℕ, _*_}
+use lib.Dec.{eqb}
+use Rattle.rules.specs.Limits.{rowsMax, entriesMax, areasMax}
+use Rattle.rules.specs.Begin.{createdManager, begunManager}
+use Rattle.rules.specs.Close.{committedManager}
+use Rattle.rules.specs.ReadOnly.{begunRoManager, endedRoManager}
+use Rattle.rules.specs.Safe.{advancedManager}
+use Rattle.rules.specs.Store.{Store, createdStore}
+use Rattle.rules.specs.Answers.{accepted}
+use Rattle.rules.specs.WellFormed.{managerOk}
+use Rattle.rules.specs.Calls.{createAnswer, beginAnswer, closeAnswer, beginRoAnswer, endRoAnswer}
+use Rattle.rules.specs.Calls.{advanceLseAnswer}
+use Rattle.rules.specs.Step.{Outcome}
+use Rattle.rules.specs.declared.Answer.{Answer}
+use Rattle.rules.specs.declared.Entry.{Entry}
+use Rattle.rules.specs.declared.Manager.{Manager}
+use Rattle.rules.specs.declared.Partitions.{Partitions}
+use Rattle.rules.specs.declared.State.{State}
+use Rattle.lent.specs.declared.Table.{Table}
+use Rattle.partition.specs.Sound.{partitionsOk}
+use Rattle.store.specs.declared.Kept.{Kept}
+
+-- the store of the books and the lent areas
+abbrev pub storeOf : State → List ℕ → List Entry → Store
+storeOf s rows entries = record { state = s; rows = rows; entries = entries }
+
+-- a call that writes no lent word answers and keeps what step says
+abbrev pub Left : Outcome → Kept → Type 0
+Left out r = (r .answer ≡ out .answer) × (r .state ≡ out .store .state)
+
+-- m rows and n entries are lent
+unfoldable pub lengthsAre : ℕ → ℕ → Bool
+lengthsAre n m = eqb m (rowsMax * areasMax) && eqb n (entriesMax * areasMax)
+
+-- *sound* but for the manager: es are the entries
+unfoldable pub restOk : State → List Entry → ℕ → ℕ → Bool
+restOk s es n m = lengthsAre n m && partitionsOk (s .manager) es (s .partitions)
+
+-- partition p in area p, all empty, and the last area spare
+unfoldable pub freshPartitions : Partitions
+freshPartitions = createdStore 1 (record {
+    state = record { manager = createdManager 1; partitions = record { at = []; spare = 0 } }; rows = []; entries = [] })
+    .state .partitions
+
+-- ---- calls on the manager
+
+-- next is the manager that an accepted call leaves
+abbrev pub keptOf : Answer → Manager → State → Kept
+keptOf a next s =
+    record { answer = a; state = record { manager = cond (accepted a) next (s .manager); partitions = s .partitions } }
+
+abbrev pub soundOf : State → Table → ℕ → ℕ → Bool
+soundOf s t n m = restOk s (t .at) n m && managerOk (s .manager)
+
+-- making new reads no state
+abbrev pub createKept : State → Table → ℕ → ℕ → ℕ → Kept
+createKept s t n m a =
+    let answer = createAnswer a (lengthsAre n m) in
+    record { answer = answer; state =
+      cond (accepted answer) (record { manager = createdManager a; partitions = freshPartitions }) s }
+
+abbrev pub beginKept : State → Table → ℕ → ℕ → Kept
+beginKept s t n m = keptOf (beginAnswer (soundOf s t n m) (s .manager)) (begunManager (s .manager)) s
+
+abbrev pub commitKept : State → Table → ℕ → ℕ → ℕ → Kept
+commitKept s t n m a =
+    keptOf (closeAnswer a (soundOf s t n m) (s .manager) (committedManager a (s .manager))) (committedManager a (s .manager)) s
+
+abbrev pub beginRoKept : State → Table → ℕ → ℕ → ℕ → Kept
+beginRoKept s t n m a =
+    keptOf (beginRoAnswer a (soundOf s t n m) (s .manager)) (begunRoManager a (s .manager)) s
+
+abbrev pub endRoKept : State → Table → ℕ → ℕ → ℕ → Kept
+endRoKept s t n m a =
+    keptOf (endRoAnswer a (soundOf s t n m) (s .manager)) (endedRoManager a (s .manager)) s
+
+abbrev pub advanceLseKept : State → Table → ℕ → ℕ → ℕ → Kept
+advanceLseKept s t n m a =
+    keptOf (advanceLseAnswer a (soundOf s t n m) (s .manager)) (advancedManager a (s .manager)) s

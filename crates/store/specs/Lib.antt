@@ -1,0 +1,3 @@
+pub mod Kept
+pub mod Write
+pub mod Scan

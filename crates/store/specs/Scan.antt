@@ -1,0 +1,78 @@
+-- What a scan decides by value, and what its public call leaves. 01 "Who sees a row".
+-- In order: Showed, a refusal, the entries of a partition, a scan of them, the two readers, the bytes written.
+-- Laws: proofs/Laws/Scan.antt.
+-- Assumes nothing.
+use mathlib.Core.Path.{_≡_}
+use mathlib.Core.Bool.{Bool, not, _&&_, cond}
+use mathlib.Core.List.{List, _++_}
+use Prim.Native.Nat.{ℕ, _*_}
+use lib.ListN.{length, take, drop, replicate}
+use lib.Dec.{ltb, leb}
+use Rattle.lists.specs.Lists.{part, firstOf}
+use Rattle.rules.specs.Limits.{partitionsMax, areasMax, entriesMax}
+use Rattle.rules.specs.Manager.{opens, noRw, noDeps, writersOf, hasOpen, hasReader, epochAt}
+use Rattle.rules.specs.Bitmap.{bytesFor}
+use Rattle.rules.specs.Step.{Outcome}
+use Rattle.rules.specs.declared.Answer.{Answer}
+use Rattle.rules.specs.declared.Answer.the-variants.{Scanned, Refused}
+use Rattle.rules.specs.declared.Refusal.{Refusal}
+use Rattle.rules.specs.declared.Refusal.the-variants.{UnknownPartition, NotOpen, ShortBitmap, Unsound}
+use Rattle.rules.specs.declared.Entry.{Entry}
+use Rattle.rules.specs.declared.Manager.{Manager}
+use Rattle.rules.specs.declared.Partition.{Partition}
+use Rattle.rules.specs.declared.State.{State}
+use Rattle.lent.specs.declared.Table.{Table}
+use Rattle.visible.specs.declared.Table.{Table as Entries}
+use Rattle.visible.specs.declared.View.{View}
+use Rattle.visible.specs.Scan.{scanned, bitmapScanned}
+use Rattle.store.specs.Kept.{soundOf}
+use Rattle.store.specs.Write.{partitionOf}
+use Rattle.store.specs.declared.scan.Look.{Look}
+
+-- a scan answers what step says, and leaves these bytes
+abbrev pub Showed : Outcome → Answer → List ℕ → Type 0
+Showed out r bytes = (r ≡ out .answer) × (bytes ≡ out .bitmap)
+
+-- the bytes of a partition's rows, all 0
+abbrev pub noBits : List ℕ
+noBits = replicate 64 0
+
+abbrev pub refusedLook : Refusal → Look
+refusedLook why = record { answer = Refused why; bits = noBits; count = 0 }
+
+-- the entries of partition q, by its area; the first area where it is none of the nine
+unfoldable pub tableAt : List Entry → Partition → Entries
+tableAt es q = record {
+  at = part (cond (ltb (q .area) areasMax) (entriesMax * q .area) 0) entriesMax es; count = q .entries }
+
+-- the reader of view v, with k bytes lent
+unfoldable pub lookAt : List Entry → Partition → View → ℕ → Look
+lookAt es q v k =
+    cond (ltb k (bytesFor (q .rows))) (refusedLook ShortBitmap)
+    (record {
+      answer = Scanned (q .rows) (scanned v (tableAt es q) (q .rows) noBits .ones);
+      bits = bitmapScanned v (tableAt es q) (q .rows) noBits; count = bytesFor (q .rows) })
+
+abbrev pub rwView : ℕ → Manager → View
+rwView i m = record { epoch = i; rw = 1; deps = firstOf (opens i) noRw (writersOf m) .deps }
+
+abbrev pub roView : ℕ → Manager → View
+roView i m = record { epoch = epochAt i m; rw = 0; deps = noDeps }
+
+-- 01's order: 5, 1, 2, 3; isOpen says whether the reader is
+abbrev pub lookBy : Bool → View → State → Table → ℕ → ℕ → ℕ → ℕ → Look
+lookBy isOpen v s t n m k p =
+    cond (not (soundOf s t n m)) (refusedLook Unsound)
+    (cond (leb partitionsMax p) (refusedLook UnknownPartition)
+    (cond (not isOpen) (refusedLook NotOpen)
+    (lookAt (t .at) (partitionOf p s) v k)))
+
+unfoldable pub rwLook : State → Table → ℕ → ℕ → ℕ → ℕ → ℕ → Look
+rwLook s t n m k i p = lookBy (hasOpen i (s .manager)) (rwView i (s .manager)) s t n m k p
+
+unfoldable pub roLook : State → Table → ℕ → ℕ → ℕ → ℕ → ℕ → Look
+roLook s t n m k i p = lookBy (hasReader i (s .manager)) (roView i (s .manager)) s t n m k p
+
+-- the first n of 64 bytes over those lent, where so many are
+unfoldable pub copied : ℕ → List ℕ → List ℕ → List ℕ
+copied n bits lent = cond (leb n 64 && leb n (length lent)) (take n bits ++ drop n lent) lent

@@ -1,0 +1,137 @@
+// The store: one public function for each call of 01. The books are kept by value, the areas of rows and of entries are
+// lent. Each call loads the entries, decides by value, then writes; what it answers and leaves is rules' step.
+ghost use mathlib.Core.Path.{_≡_};
+ghost use Rattle.rules.specs.Step.{step, begin, append, clear, commit, create, beginRo, endRo, scan, advanceLse};
+ghost use Rattle.rules.specs.declared.Reader.the-variants.{Rw, Ro};
+ghost use Rattle.store.specs.Kept.{storeOf, Left};
+ghost use Rattle.store.specs.Write.{Wrote};
+ghost use Rattle.store.specs.Scan.{Showed};
+
+use rules::Answer;
+use rules::Entry;
+use rules::State;
+
+mod books;
+mod limits;
+mod scan;
+mod sound;
+mod write;
+
+// What a call answers, and the books after it.
+pub struct Kept {
+    pub answer: Answer,
+    pub state: State,
+}
+
+// Making new at epoch a. It reads no state and writes no lent word. Refusals, in this order: 5 (the lengths), 4.
+pub fn create(state: State, entries: &[Entry], rows: &[u64], a: u64) -> Kept
+    ensures { λ r. ⌜ Left (step (create a) (storeOf state (now (rows .entry)) (now (entries .entry)))) r ⌝ }
+{
+    let n = entries.len();
+    let m = rows.len();
+    let t = lent::load_all(entries);
+    books::create_core(state, t, n, m, a)
+}
+
+// Refusals, in this order: 5, 6, 7.
+pub fn begin(state: State, entries: &[Entry], rows: &[u64]) -> Kept
+    ensures { λ r. ⌜ Left (step begin (storeOf state (now (rows .entry)) (now (entries .entry)))) r ⌝ }
+{
+    let n = entries.len();
+    let m = rows.len();
+    let t = lent::load_all(entries);
+    books::begin_core(state, t, n, m)
+}
+
+// The rows of batch to partition p (01: lot), by transaction txn (01: load). Refusals, in this order: 5, 1, 2, 8, 9.
+pub fn append(state: State, entries: &mut [Entry], rows: &mut [u64], batch: &[u64], txn: u64, p: u64) -> Kept
+    ensures { λ r. ⌜ Wrote (step (append txn p (now (batch .entry))) (storeOf state (now (rows .entry)) (now (entries .entry)))) r (now (entries .exit)) (now (rows .exit)) ⌝ }
+{
+    let n = entries.len();
+    let m = rows.len();
+    let k = batch.len();
+    let t = lent::load_all(entries);
+    let w = write::append_core(state, t, n, m, k, txn, p);
+    write::put_write(entries, w);
+    write::write_rows(rows, batch, w);
+    write::write_done(w)
+}
+
+// A clearing of partition p by transaction txn. Refusals, in this order: 5, 1, 2, 9.
+pub fn clear(state: State, entries: &mut [Entry], rows: &mut [u64], txn: u64, p: u64) -> Kept
+    ensures { λ r. ⌜ Wrote (step (clear txn p) (storeOf state (now (rows .entry)) (now (entries .entry)))) r (now (entries .exit)) (now (rows .exit)) ⌝ }
+{
+    let n = entries.len();
+    let m = rows.len();
+    let t = lent::load_all(entries);
+    let w = write::clear_core(state, t, n, m, txn, p);
+    write::put_write(entries, w);
+    write::keep_rows(rows, w);
+    write::write_done(w)
+}
+
+// Refusals, in this order: 5, 2.
+pub fn commit(state: State, entries: &[Entry], rows: &[u64], a: u64) -> Kept
+    ensures { λ r. ⌜ Left (step (commit a) (storeOf state (now (rows .entry)) (now (entries .entry)))) r ⌝ }
+{
+    let n = entries.len();
+    let m = rows.len();
+    let t = lent::load_all(entries);
+    books::commit_core(state, t, n, m, a)
+}
+
+// Opening a page at epoch a; 0 means LCE. Refusals, in this order: 5, 4, 6, 7.
+pub fn begin_ro(state: State, entries: &[Entry], rows: &[u64], a: u64) -> Kept
+    ensures { λ r. ⌜ Left (step (beginRo a) (storeOf state (now (rows .entry)) (now (entries .entry)))) r ⌝ }
+{
+    let n = entries.len();
+    let m = rows.len();
+    let t = lent::load_all(entries);
+    books::begin_ro_core(state, t, n, m, a)
+}
+
+// Closing a page. Refusals, in this order: 5, 2.
+pub fn end_ro(state: State, entries: &[Entry], rows: &[u64], a: u64) -> Kept
+    ensures { λ r. ⌜ Left (step (endRo a) (storeOf state (now (rows .entry)) (now (entries .entry)))) r ⌝ }
+{
+    let n = entries.len();
+    let m = rows.len();
+    let t = lent::load_all(entries);
+    books::end_ro_core(state, t, n, m, a)
+}
+
+// Transaction i scans partition p: a bit a row in bitmap. Refusals, in this order: 5, 1, 2, 3.
+pub fn scan_rw(state: State, entries: &[Entry], rows: &[u64], bitmap: &mut [u8], i: u64, p: u64) -> Answer
+    ensures { λ r. ⌜ Showed (step (scan (Rw i) p (now (bitmap .entry))) (storeOf state (now (rows .entry)) (now (entries .entry)))) r (now (bitmap .exit)) ⌝ }
+{
+    let n = entries.len();
+    let m = rows.len();
+    let k = bitmap.len();
+    let l = lent::load_all(entries);
+    let w = scan::rw_core(state, l, n, m, k, i, p);
+    scan::write_bits(bitmap, w);
+    scan::look_done(w)
+}
+
+// The read-only transaction of ticket t scans partition p. Refusals, in this order: 5, 1, 2, 3.
+pub fn scan_ro(state: State, entries: &[Entry], rows: &[u64], bitmap: &mut [u8], t: u64, p: u64) -> Answer
+    ensures { λ r. ⌜ Showed (step (scan (Ro t) p (now (bitmap .entry))) (storeOf state (now (rows .entry)) (now (entries .entry)))) r (now (bitmap .exit)) ⌝ }
+{
+    let n = entries.len();
+    let m = rows.len();
+    let k = bitmap.len();
+    let l = lent::load_all(entries);
+    let w = scan::ro_core(state, l, n, m, k, t, p);
+    scan::write_bits(bitmap, w);
+    scan::look_done(w)
+}
+
+// Moving LSE to a; 0 means as far as it may go. Refusals, in this order: 5, 4, 10.
+pub fn advance_lse(state: State, entries: &[Entry], rows: &[u64], a: u64) -> Kept
+    ensures { λ r. ⌜ Left (step (advanceLse a) (storeOf state (now (rows .entry)) (now (entries .entry)))) r ⌝ }
+{
+    let n = entries.len();
+    let m = rows.len();
+    let t = lent::load_all(entries);
+    books::advance_lse_core(state, t, n, m, a)
+}

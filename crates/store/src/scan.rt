@@ -1,0 +1,154 @@
+// Scans (01 "Who sees a row"), decided by value: what is refused, and the bytes that a call writes.
+ghost use mathlib.Core.Path.{_≡_};
+ghost use mathlib.Core.Bool.{cond};
+ghost use Prim.Native.Nat.{_*_};
+ghost use lib.Dec.{ltb};
+ghost use Rattle.rules.specs.Limits.{areasMax, entriesMax};
+ghost use Rattle.store.specs.Scan.{refusedLook, tableAt, lookAt, rwLook, roLook, copied};
+
+use crate::limits::AREAS;
+use crate::limits::BITMAP;
+use crate::limits::DEPS;
+use crate::limits::ENTRIES;
+use crate::limits::PARTITIONS;
+use crate::sound;
+use lent::Table;
+use rules::Answer;
+use rules::Deps;
+use rules::Entry;
+use rules::Partition;
+use rules::Refusal;
+use rules::State;
+use visible::View;
+
+// What a scan answers, and the first count bytes that it writes.
+pub struct Look {
+    pub answer: Answer,
+    pub bits: [u8; 64],
+    pub count: usize,
+}
+
+// Nothing is written.
+fn refused(why: Refusal) -> Look
+    ensures { λ r. ⌜ r ≡ refusedLook why ⌝ }
+{
+    Look {
+        answer: Answer::Refused(why),
+        bits: [0; BITMAP],
+        count: 0,
+    }
+}
+
+// The index of an area's first entry; of the first area's where the area is none of the nine.
+fn base_of(area: usize) -> usize
+    ensures { λ r. ⌜ r ≡ cond (ltb area areasMax) (entriesMax * area) 0 ⌝ }
+{
+    if area < AREAS {
+        return ENTRIES * area;
+    }
+    0
+}
+
+// The entries of partition q.
+fn entries_of(t: Table, q: Partition) -> visible::Table
+    ensures { λ r. ⌜ r ≡ tableAt (t .at) q ⌝ }
+{
+    let base = base_of(q.area);
+    let mut at = [Entry {
+        epoch: 0,
+        end: 0,
+        mark: 0,
+    }; ENTRIES];
+    let mut i: usize = 0;
+    while i < ENTRIES {
+        at[i] = t.at[base + i];
+        i += 1;
+    }
+    visible::Table { at: at, count: q.entries }
+}
+
+// The reader of view v scans partition q, and k bytes are lent.
+fn scan_partition(t: Table, q: Partition, v: View, k: usize) -> Look
+    ensures { λ r. ⌜ r ≡ lookAt (t .at) q v k ⌝ }
+{
+    let rows = q.rows;
+    let count = visible::pack::bytes_for(rows);
+    if k < count {
+        return refused(Refusal::ShortBitmap);
+    }
+    let es = entries_of(t, q);
+    let mut bits = [0u8; BITMAP];
+    let done = visible::scan(v, es, rows, &mut bits);
+    let answer = Answer::Scanned { rows: rows, ones: done.ones };
+    Look { answer: answer, bits: bits, count: count }
+}
+
+// Transaction i scans partition p.
+pub fn rw_core(state: State, t: Table, n: usize, m: usize, k: usize, i: u64, p: u64) -> Look
+    ensures { λ r. ⌜ r ≡ rwLook state t n m k i p ⌝ }
+{
+    if !sound::is_sound(state, t, n, m) {
+        return refused(Refusal::Unsound);
+    }
+    if PARTITIONS <= p {
+        return refused(Refusal::UnknownPartition);
+    }
+    let manager = state.manager;
+    if !txn::find::has_open(manager, i) {
+        return refused(Refusal::NotOpen);
+    }
+    let deps = txn::find::deps_at(manager, i);
+    let v = View { epoch: i, rw: 1, deps: deps };
+    let partitions = state.partitions;
+    let place = p as usize;
+    let q = partitions.at[place];
+    scan_partition(t, q, v, k)
+}
+
+// The read-only transaction (01: page) of ticket i scans partition p.
+pub fn ro_core(state: State, t: Table, n: usize, m: usize, k: usize, i: u64, p: u64) -> Look
+    ensures { λ r. ⌜ r ≡ roLook state t n m k i p ⌝ }
+{
+    if !sound::is_sound(state, t, n, m) {
+        return refused(Refusal::Unsound);
+    }
+    if PARTITIONS <= p {
+        return refused(Refusal::UnknownPartition);
+    }
+    let manager = state.manager;
+    if !txn::find::has_reader(manager, i) {
+        return refused(Refusal::NotOpen);
+    }
+    let epoch = txn::find::epoch_at(manager, i);
+    let deps = Deps { at: [0; DEPS], count: 0 };
+    let v = View { epoch: epoch, rw: 0, deps: deps };
+    let partitions = state.partitions;
+    let place = p as usize;
+    let q = partitions.at[place];
+    scan_partition(t, q, v, k)
+}
+
+// The first count bytes, where there are so many and so many are lent.
+pub fn write_bits(bitmap: &mut [u8], w: Look)
+    ensures { λ _. ⌜ now (bitmap .exit) ≡ copied (w .count) (w .bits) (now (bitmap .entry)) ⌝ }
+{
+    let n = w.count;
+    if BITMAP < n {
+        return;
+    }
+    if bitmap.len() < n {
+        return;
+    }
+    let bits = w.bits;
+    let mut i: usize = 0;
+    while i < n {
+        bitmap[i] = bits[i];
+        i += 1;
+    }
+}
+
+pub fn look_done(w: Look) -> Answer
+    ensures { λ r. ⌜ r ≡ w .answer ⌝ }
+{
+    w.answer
+}

@@ -1,0 +1,41 @@
+// 01's *sound*: the lengths of the lent areas and the partitions, then the manager.
+ghost use mathlib.Core.Path.{_≡_};
+ghost use Rattle.store.specs.Kept.{lengthsAre, restOk, soundOf};
+
+use crate::limits::ENTRIES_LENT;
+use crate::limits::ROWS_LENT;
+use lent::Table;
+use rules::State;
+
+// n entries and m rows are lent.
+pub fn lengths_ok(n: usize, m: usize) -> bool
+    ensures { λ r. ⌜ r ≡ lengthsAre n m ⌝ }
+{
+    if m != ROWS_LENT {
+        return false;
+    }
+    n == ENTRIES_LENT
+}
+
+// n entries and m rows are lent, and t holds the entries.
+pub fn rest_ok(state: State, t: Table, n: usize, m: usize) -> bool
+    ensures { λ r. ⌜ r ≡ restOk state (t .at) n m ⌝ }
+{
+    if !lengths_ok(n, m) {
+        return false;
+    }
+    let manager = state.manager;
+    let partitions = state.partitions;
+    partition::sound::partitions_ok(manager, partitions, t)
+}
+
+// 01's *sound*, over the whole store.
+pub fn is_sound(state: State, t: Table, n: usize, m: usize) -> bool
+    ensures { λ r. ⌜ r ≡ soundOf state t n m ⌝ }
+{
+    if !rest_ok(state, t, n, m) {
+        return false;
+    }
+    let manager = state.manager;
+    txn::sound::manager_ok(manager)
+}
