@@ -1,5 +1,6 @@
 //! Times the proved functions of crate exports beside the model: the same input, both built for release, one thread,
-//! buffers not cleared between calls. Prints the best of nine runs in nanoseconds a call.
+//! buffers not cleared between calls. Prints the best of nine runs in nanoseconds a call. The model's scans and purge are
+//! timed without its test of soundness, as the proved functions beside them have none; begin and commit test the books.
 
 use model::clock::Clock;
 use model::partition::Entry;
@@ -77,8 +78,16 @@ fn best(mut call: impl FnMut()) -> f64 {
     least
 }
 
+/// A figure that was not measured is NaN, and prints as a dash.
+fn figure(ns: f64) -> String {
+    if ns.is_nan() {
+        return "-".to_string();
+    }
+    format!("{ns:.0} ns")
+}
+
 fn line(what: &str, proved: f64, model: f64) {
-    println!("{what:<44} {proved:>9.0} ns {model:>9.0} ns");
+    println!("{what:<44} {:>12} {:>12}", figure(proved), figure(model));
 }
 
 /// A store with 31 open loads, and partition 0 full: 512 rows in 64 entries of the loads 1 to 4 in turn.
