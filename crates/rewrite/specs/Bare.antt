@@ -1,6 +1,6 @@
 -- The entries of an area as spans, whatever the words: what a rewrite decides needs only their number. 01
 -- "Lots".
--- In order: entriesIn, noEntry, bareSpan, bare. Laws: proofs/Laws/Bare.antt.
+-- In order: entriesIn, noEntry, bareSpan, bare. Laws: proofs/Laws.
 -- Assumes nothing.
 use mathlib.Core.List.{List, [], _∷_}
 use Prim.Native.Nat.{ℕ, _-_}

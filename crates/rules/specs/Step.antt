@@ -1,5 +1,5 @@
 -- One call on the store, for all input, and a list of calls. 01 "Refusals": a refusal changes nothing.
--- In order: Call, callOf, Outcome, step, run. Laws: proofs/Laws/Step.antt.
+-- In order: Call, callOf, Outcome, step, run. Laws: proofs/Laws/Sound.antt.
 -- Assumes nothing.
 use mathlib.Core.Bool.{Bool, true, false, cond}
 use mathlib.Core.List.{List, [], _∷_}
