@@ -1,6 +1,6 @@
 -- What becomes of each entry: 0 where it goes, else its new epoch. 01 "Lots", Roll back, Purge; 004 III-C 4,
 -- 5.
--- In order: skipping and hasRows, rollPlanned, purgePlanned. Laws: proofs/Laws/Plan.antt.
+-- In order: spansIn, planOf, roll back, purge. Laws: proofs/Laws/Plan.antt.
 -- Assumes nothing.
 use mathlib.Core.Bool.{Bool, cond}
 use mathlib.Core.List.{List, [], _∷_}

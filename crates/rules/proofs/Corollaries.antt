@@ -91,7 +91,7 @@ scans-run r calls {st} F o h p k lent n n′ = let S = stays-run r calls F o h i
 
 -- ---- a page: what it shows does not change until it is closed
 
--- every call but making new and the closing of page t
+-- every call but the closing of page t, and making new at an epoch in range: one out of range is refused
 abbrev pub sparesPage : ℕ → Call → Bool
 sparesPage t c = spares (Ro t) c
 
@@ -122,7 +122,7 @@ history-page-unchanged s st h before t o calls k = page-unchanged (follows-histo
 
 -- ---- a load: what it shows grows by the rows that it appends, and by nothing else, until it is closed
 
--- every call but making new and the closing of load i
+-- every call but the closing of load i, and making new at an epoch in range
 abbrev pub sparesLoad : ℕ → Call → Bool
 sparesLoad i c = spares (Rw i) c
 

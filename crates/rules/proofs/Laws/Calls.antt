@@ -76,6 +76,13 @@ create-passed s lengths e = let a = passed Unsound (not lengths) _ e in let b = 
     record { sound = not-false lengths (a .test); low = within-low 1 lastEpoch s (b .test); high = within-high 1
         lastEpoch s (b .test) }
 
+-- out of range it is refused, whatever the lengths
+pub create-refused : (s : ℕ) (lengths : Bool) → not (within 1 lastEpoch s) ≡ true
+    → accepted (createAnswer s lengths) ≡ false
+unfolding createAnswer
+create-refused s true h = rw h refl
+create-refused s false h = refl
+
 pub record BeginPassed (b : Bool) (m : Manager) : Type 0 where
   pub sound : b ≡ true
   pub last : m .clock .ec ≡ suc lastEpoch → ⊥

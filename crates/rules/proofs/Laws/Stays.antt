@@ -15,15 +15,14 @@ use borrow.Author.Tests.{eq-eqb, ne-eqb, not-true}
 use Rattle.lists.specs.Lists.{elem}
 use Rattle.lists.proofs.Laws.All.{All-map}
 use Rattle.lists.proofs.Laws.Bools.{split, split-eq, and-false, and-true}
-use Rattle.lists.proofs.Laws.Tests.{no-proof}
-use Rattle.rules.specs.Limits.{partitionsMax}
+use Rattle.rules.specs.Limits.{partitionsMax, lastEpoch}
 use Rattle.rules.specs.Manager.{hasOpen}
 use Rattle.rules.specs.Close.{committedManager, rolledBackManager}
 use Rattle.rules.specs.Store.{Store, managerOf}
 use Rattle.rules.specs.Answers.{replyOf, accepted}
-use Rattle.rules.specs.WellFormed.{wellFormed}
+use Rattle.rules.specs.WellFormed.{lengthsOk, wellFormed}
 use Rattle.rules.specs.Calls.{beginAnswer, closeAnswer, beginRoAnswer, endRoAnswer, appendAnswer}
-use Rattle.rules.specs.Calls.{clearAnswer}
+use Rattle.rules.specs.Calls.{clearAnswer, within}
 use Rattle.rules.specs.Step.{Call, create, begin, append, clear, commit, rollback, beginRo, endRo, scan}
 use Rattle.rules.specs.Step.{advanceLse, purge, step}
 use Rattle.rules.specs.Ledger.{Line, row, delete, Ledger, heard, marksOf, linesAt, shows, withAdded}
@@ -34,7 +33,7 @@ use Rattle.rules.specs.declared.Reader.{Reader}
 use Rattle.rules.specs.declared.Reader.the-variants.{Rw, Ro}
 use Rattle.rules.specs.declared.Answer.{Answer}
 use Rattle.rules.proofs.Laws.Lines.{AllLines, Unseen, shows-unseen, shows-own}
-use Rattle.rules.proofs.Laws.Calls.{begin-passed, begin-ro-passed, append-passed, clear-passed}
+use Rattle.rules.proofs.Laws.Calls.{create-refused, begin-passed, begin-ro-passed, append-passed, clear-passed}
 use Rattle.rules.proofs.Laws.Snapshots.{isLoad, isPage, marksIn, appliesIn, Keeps, keeps-lines}
 use Rattle.rules.proofs.Laws.Snapshots.{keeps-begin}
 use Rattle.rules.proofs.Laws.Snapshots.{keeps-close, keeps-begin-ro, keeps-end-ro, other-mark}
@@ -45,9 +44,9 @@ use Rattle.rules.proofs.Laws.Follows.{Follows}
 
 -- ---- the calls that do not close a reader, and the rows that it adds
 
--- all but making new and the closing of r, refused or not
+-- all but the closing of r, and making new at an epoch in range, which closes every reader
 abbrev pub spares : Reader → Call → Bool
-spares r (create s) = false
+spares r (create s) = not (within 1 lastEpoch s)
 spares r begin = true
 spares r (append i p batch) = true
 spares r (clear i p) = true
@@ -202,7 +201,7 @@ module _ {st : Store} {g : Ledger} (F : Follows st g) (r : Reader) (o : isOpenIn
   pub stays-step : (c : Call) → spares r c ≡ true
       → Stays r g (heard (eventOf c (replyOf (step c st .answer))) g) (λ p. rowsOf r p c (step c st .answer))
   unfolding step heard eventOf
-  stays-step (create s) h = no-proof h
+  stays-step (create s) h = rw (create-refused s (lengthsOk st) h) (stays-still r g o)
   stays-step begin h = let m = managerOf st in calm r (beginAnswer (wellFormed st) m) o
     (λ t. rw (begin-passed (wellFormed st) m t .is) (stays-keeps r g _ (keeps-begin (F .tracks) r o) refl))
   stays-step (append i q batch) h = step-append i q batch
