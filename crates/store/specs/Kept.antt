@@ -31,9 +31,9 @@ use Rattle.store.specs.declared.Kept.{Kept}
 abbrev pub storeOf : State → List ℕ → List Entry → Store
 storeOf s rows entries = record { state = s; rows = rows; entries = entries }
 
--- a call that writes no lent word answers and keeps what step says
-abbrev pub Left : Outcome → Kept → Type 0
-Left out r = (r .answer ≡ out .answer) × (r .state ≡ out .store .state)
+-- a call answers what step says; the books that it hands back, and the lent areas at its end, are step's store
+abbrev pub Left : Outcome → Kept → List ℕ → List Entry → Type 0
+Left out r rows entries = (r .answer ≡ out .answer) × (storeOf (r .state) rows entries ≡ out .store)
 
 -- m rows and n entries are lent
 unfoldable pub lengthsAre : ℕ → ℕ → Bool

@@ -12,6 +12,7 @@ use Rattle.lists.specs.Lists.{part, firstOf}
 use Rattle.rules.specs.Limits.{partitionsMax, areasMax, entriesMax}
 use Rattle.rules.specs.Manager.{opens, noRw, noDeps, writersOf, hasOpen, hasReader, epochAt}
 use Rattle.rules.specs.Bitmap.{bytesFor}
+use Rattle.rules.specs.Store.{Store}
 use Rattle.rules.specs.Step.{Outcome}
 use Rattle.rules.specs.declared.Answer.{Answer}
 use Rattle.rules.specs.declared.Answer.the-variants.{Scanned, Refused}
@@ -29,9 +30,9 @@ use Rattle.store.specs.Kept.{soundOf}
 use Rattle.store.specs.Write.{partitionOf}
 use Rattle.store.specs.declared.scan.Look.{Look}
 
--- a scan answers what step says, and leaves these bytes
-abbrev pub Showed : Outcome → Answer → List ℕ → Type 0
-Showed out r bytes = (r ≡ out .answer) × (bytes ≡ out .bitmap)
+-- a scan answers what step says and leaves these bytes; the store st that it read is step's at the end too
+abbrev pub Showed : Outcome → Answer → List ℕ → Store → Type 0
+Showed out r bytes st = (r ≡ out .answer) × (bytes ≡ out .bitmap) × (st ≡ out .store)
 
 -- the bytes of a partition's rows, all 0
 abbrev pub noBits : List ℕ

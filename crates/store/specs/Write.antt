@@ -1,7 +1,6 @@
--- What append and clear decide by value, and what their public calls leave. 01 "Lots", Append, Clear.
--- In order: Wrote, a refusal, a plan, append, clear, the end. Laws: proofs/Laws/Write.antt.
+-- What append and clear decide by value. 01 "Lots", Append, Clear.
+-- In order: a refusal, a plan, append, clear, the end. Laws: proofs/Laws/Write.antt.
 -- Assumes nothing.
-use mathlib.Core.Path.{_≡_}
 use mathlib.Core.Bool.{not, cond}
 use mathlib.Core.List.{List}
 use Prim.Native.Nat.{ℕ}
@@ -10,7 +9,6 @@ use lib.Dec.{leb}
 use Rattle.rules.specs.Limits.{partitionsMax}
 use Rattle.rules.specs.Manager.{hasOpen}
 use Rattle.rules.specs.Store.{noPartition}
-use Rattle.rules.specs.Step.{Outcome}
 use Rattle.rules.specs.declared.Answer.{Answer}
 use Rattle.rules.specs.declared.Answer.the-variants.{Appended, Cleared, Refused}
 use Rattle.rules.specs.declared.Refusal.{Refusal}
@@ -27,11 +25,6 @@ use Rattle.partition.specs.declared.Plan.{Plan}
 use Rattle.store.specs.Kept.{soundOf}
 use Rattle.store.specs.declared.Kept.{Kept}
 use Rattle.store.specs.declared.write.Write.{Write}
-
--- a call that writes answers and keeps what step says, and leaves these entries and rows
-abbrev pub Wrote : Outcome → Kept → List Entry → List ℕ → Type 0
-Wrote out r es rs =
-    (r .answer ≡ out .answer) × (r .state ≡ out .store .state) × (es ≡ out .store .entries) × (rs ≡ out .store .rows)
 
 -- of n entries and m rows none is written
 abbrev pub refusedWrite : State → ℕ → ℕ → Refusal → Write

@@ -4,7 +4,6 @@ ghost use mathlib.Core.Path.{_≡_};
 ghost use Rattle.rules.specs.Step.{step, begin, append, clear, commit, create, beginRo, endRo, scan, advanceLse};
 ghost use Rattle.rules.specs.declared.Reader.the-variants.{Rw, Ro};
 ghost use Rattle.store.specs.Kept.{storeOf, Left};
-ghost use Rattle.store.specs.Write.{Wrote};
 ghost use Rattle.store.specs.Scan.{Showed};
 
 use rules::Answer;
@@ -25,7 +24,7 @@ pub struct Kept {
 
 // Making new at epoch a. It reads no state and writes no lent word. Refusals, in this order: 5 (the lengths), 4.
 pub fn create(state: State, entries: &[Entry], rows: &[u64], a: u64) -> Kept
-    ensures { λ r. ⌜ Left (step (create a) (storeOf state (now (rows .entry)) (now (entries .entry)))) r ⌝ }
+    ensures { λ r. ⌜ Left (step (create a) (storeOf state (now (rows .entry)) (now (entries .entry)))) r (now (rows .entry)) (now (entries .entry)) ⌝ }
 {
     let n = entries.len();
     let m = rows.len();
@@ -35,7 +34,7 @@ pub fn create(state: State, entries: &[Entry], rows: &[u64], a: u64) -> Kept
 
 // Refusals, in this order: 5, 6, 7.
 pub fn begin(state: State, entries: &[Entry], rows: &[u64]) -> Kept
-    ensures { λ r. ⌜ Left (step begin (storeOf state (now (rows .entry)) (now (entries .entry)))) r ⌝ }
+    ensures { λ r. ⌜ Left (step begin (storeOf state (now (rows .entry)) (now (entries .entry)))) r (now (rows .entry)) (now (entries .entry)) ⌝ }
 {
     let n = entries.len();
     let m = rows.len();
@@ -45,7 +44,7 @@ pub fn begin(state: State, entries: &[Entry], rows: &[u64]) -> Kept
 
 // The rows of batch to partition p (01: lot), by transaction txn (01: load). Refusals, in this order: 5, 1, 2, 8, 9.
 pub fn append(state: State, entries: &mut [Entry], rows: &mut [u64], batch: &[u64], txn: u64, p: u64) -> Kept
-    ensures { λ r. ⌜ Wrote (step (append txn p (now (batch .entry))) (storeOf state (now (rows .entry)) (now (entries .entry)))) r (now (entries .exit)) (now (rows .exit)) ⌝ }
+    ensures { λ r. ⌜ Left (step (append txn p (now (batch .entry))) (storeOf state (now (rows .entry)) (now (entries .entry)))) r (now (rows .exit)) (now (entries .exit)) ⌝ }
 {
     let n = entries.len();
     let m = rows.len();
@@ -59,7 +58,7 @@ pub fn append(state: State, entries: &mut [Entry], rows: &mut [u64], batch: &[u6
 
 // A clearing of partition p by transaction txn. Refusals, in this order: 5, 1, 2, 9.
 pub fn clear(state: State, entries: &mut [Entry], rows: &mut [u64], txn: u64, p: u64) -> Kept
-    ensures { λ r. ⌜ Wrote (step (clear txn p) (storeOf state (now (rows .entry)) (now (entries .entry)))) r (now (entries .exit)) (now (rows .exit)) ⌝ }
+    ensures { λ r. ⌜ Left (step (clear txn p) (storeOf state (now (rows .entry)) (now (entries .entry)))) r (now (rows .exit)) (now (entries .exit)) ⌝ }
 {
     let n = entries.len();
     let m = rows.len();
@@ -72,7 +71,7 @@ pub fn clear(state: State, entries: &mut [Entry], rows: &mut [u64], txn: u64, p:
 
 // Refusals, in this order: 5, 2.
 pub fn commit(state: State, entries: &[Entry], rows: &[u64], a: u64) -> Kept
-    ensures { λ r. ⌜ Left (step (commit a) (storeOf state (now (rows .entry)) (now (entries .entry)))) r ⌝ }
+    ensures { λ r. ⌜ Left (step (commit a) (storeOf state (now (rows .entry)) (now (entries .entry)))) r (now (rows .entry)) (now (entries .entry)) ⌝ }
 {
     let n = entries.len();
     let m = rows.len();
@@ -82,7 +81,7 @@ pub fn commit(state: State, entries: &[Entry], rows: &[u64], a: u64) -> Kept
 
 // Opening a page at epoch a; 0 means LCE. Refusals, in this order: 5, 4, 6, 7.
 pub fn begin_ro(state: State, entries: &[Entry], rows: &[u64], a: u64) -> Kept
-    ensures { λ r. ⌜ Left (step (beginRo a) (storeOf state (now (rows .entry)) (now (entries .entry)))) r ⌝ }
+    ensures { λ r. ⌜ Left (step (beginRo a) (storeOf state (now (rows .entry)) (now (entries .entry)))) r (now (rows .entry)) (now (entries .entry)) ⌝ }
 {
     let n = entries.len();
     let m = rows.len();
@@ -92,7 +91,7 @@ pub fn begin_ro(state: State, entries: &[Entry], rows: &[u64], a: u64) -> Kept
 
 // Closing a page. Refusals, in this order: 5, 2.
 pub fn end_ro(state: State, entries: &[Entry], rows: &[u64], a: u64) -> Kept
-    ensures { λ r. ⌜ Left (step (endRo a) (storeOf state (now (rows .entry)) (now (entries .entry)))) r ⌝ }
+    ensures { λ r. ⌜ Left (step (endRo a) (storeOf state (now (rows .entry)) (now (entries .entry)))) r (now (rows .entry)) (now (entries .entry)) ⌝ }
 {
     let n = entries.len();
     let m = rows.len();
@@ -102,7 +101,7 @@ pub fn end_ro(state: State, entries: &[Entry], rows: &[u64], a: u64) -> Kept
 
 // Transaction i scans partition p: a bit a row in bitmap. Refusals, in this order: 5, 1, 2, 3.
 pub fn scan_rw(state: State, entries: &[Entry], rows: &[u64], bitmap: &mut [u8], i: u64, p: u64) -> Answer
-    ensures { λ r. ⌜ Showed (step (scan (Rw i) p (now (bitmap .entry))) (storeOf state (now (rows .entry)) (now (entries .entry)))) r (now (bitmap .exit)) ⌝ }
+    ensures { λ r. ⌜ Showed (step (scan (Rw i) p (now (bitmap .entry))) (storeOf state (now (rows .entry)) (now (entries .entry)))) r (now (bitmap .exit)) (storeOf state (now (rows .entry)) (now (entries .entry))) ⌝ }
 {
     let n = entries.len();
     let m = rows.len();
@@ -115,7 +114,7 @@ pub fn scan_rw(state: State, entries: &[Entry], rows: &[u64], bitmap: &mut [u8],
 
 // The read-only transaction of ticket t scans partition p. Refusals, in this order: 5, 1, 2, 3.
 pub fn scan_ro(state: State, entries: &[Entry], rows: &[u64], bitmap: &mut [u8], t: u64, p: u64) -> Answer
-    ensures { λ r. ⌜ Showed (step (scan (Ro t) p (now (bitmap .entry))) (storeOf state (now (rows .entry)) (now (entries .entry)))) r (now (bitmap .exit)) ⌝ }
+    ensures { λ r. ⌜ Showed (step (scan (Ro t) p (now (bitmap .entry))) (storeOf state (now (rows .entry)) (now (entries .entry)))) r (now (bitmap .exit)) (storeOf state (now (rows .entry)) (now (entries .entry))) ⌝ }
 {
     let n = entries.len();
     let m = rows.len();
@@ -128,7 +127,7 @@ pub fn scan_ro(state: State, entries: &[Entry], rows: &[u64], bitmap: &mut [u8],
 
 // Moving LSE to a; 0 means as far as it may go. Refusals, in this order: 5, 4, 10.
 pub fn advance_lse(state: State, entries: &[Entry], rows: &[u64], a: u64) -> Kept
-    ensures { λ r. ⌜ Left (step (advanceLse a) (storeOf state (now (rows .entry)) (now (entries .entry)))) r ⌝ }
+    ensures { λ r. ⌜ Left (step (advanceLse a) (storeOf state (now (rows .entry)) (now (entries .entry)))) r (now (rows .entry)) (now (entries .entry)) ⌝ }
 {
     let n = entries.len();
     let m = rows.len();

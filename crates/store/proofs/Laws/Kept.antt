@@ -46,45 +46,45 @@ sound-is s es rs = split (eqb (length es) (entriesMax * areasMax))
 
 -- a call on the manager
 pub kept-left : (a : Answer) (next : Manager) (s : State) (es : List Entry) (rs : List ℕ)
-    → keptOf a next s .state ≡ (cond (accepted a) (withManager next (storeOf s rs es)) (storeOf s rs es)) .state
+    → storeOf (keptOf a next s .state) rs es ≡ cond (accepted a) (withManager next (storeOf s rs es)) (storeOf s rs es)
 kept-left a next s es rs = split (accepted a) (λ t. rw t) (λ f. rw f)
 
 pub begin-left : (s : State) (es : List Entry) (rs : List ℕ)
-    → Left (step begin (storeOf s rs es)) (beginKept s (tableOf es) (length es) (length rs))
+    → Left (step begin (storeOf s rs es)) (beginKept s (tableOf es) (length es) (length rs)) rs es
 unfolding step
 begin-left s es rs = rw (sound-is s es rs) (refl, kept-left (beginAnswer (wellFormed (storeOf s rs es)) (s
     .manager)) (begunManager (s .manager)) s es rs)
 
 pub commit-left : (s : State) (es : List Entry) (rs : List ℕ) (a : ℕ)
-    → Left (step (commit a) (storeOf s rs es)) (commitKept s (tableOf es) (length es) (length rs) a)
+    → Left (step (commit a) (storeOf s rs es)) (commitKept s (tableOf es) (length es) (length rs) a) rs es
 unfolding step
 commit-left s es rs a = rw (sound-is s es rs)
     (refl, kept-left (closeAnswer a (wellFormed (storeOf s rs es)) (s .manager) (committedManager a (s .manager)))
         (committedManager a (s .manager)) s es rs)
 
 pub begin-ro-left : (s : State) (es : List Entry) (rs : List ℕ) (a : ℕ)
-    → Left (step (beginRo a) (storeOf s rs es)) (beginRoKept s (tableOf es) (length es) (length rs) a)
+    → Left (step (beginRo a) (storeOf s rs es)) (beginRoKept s (tableOf es) (length es) (length rs) a) rs es
 unfolding step
 begin-ro-left s es rs a = rw (sound-is s es rs)
     (refl, kept-left (beginRoAnswer a (wellFormed (storeOf s rs es)) (s .manager)) (begunRoManager a (s .manager))
         s es rs)
 
 pub end-ro-left : (s : State) (es : List Entry) (rs : List ℕ) (a : ℕ)
-    → Left (step (endRo a) (storeOf s rs es)) (endRoKept s (tableOf es) (length es) (length rs) a)
+    → Left (step (endRo a) (storeOf s rs es)) (endRoKept s (tableOf es) (length es) (length rs) a) rs es
 unfolding step
 end-ro-left s es rs a = rw (sound-is s es rs)
     (refl, kept-left (endRoAnswer a (wellFormed (storeOf s rs es)) (s .manager)) (endedRoManager a (s .manager)) s
         es rs)
 
 pub advance-lse-left : (s : State) (es : List Entry) (rs : List ℕ) (a : ℕ)
-    → Left (step (advanceLse a) (storeOf s rs es)) (advanceLseKept s (tableOf es) (length es) (length rs) a)
+    → Left (step (advanceLse a) (storeOf s rs es)) (advanceLseKept s (tableOf es) (length es) (length rs) a) rs es
 unfolding step
 advance-lse-left s es rs a = rw (sound-is s es rs)
     (refl, kept-left (advanceLseAnswer a (wellFormed (storeOf s rs es)) (s .manager)) (advancedManager a (s
         .manager)) s es rs)
 
 pub create-left : (s : State) (es : List Entry) (rs : List ℕ) (a : ℕ)
-    → Left (step (create a) (storeOf s rs es)) (createKept s (tableOf es) (length es) (length rs) a)
+    → Left (step (create a) (storeOf s rs es)) (createKept s (tableOf es) (length es) (length rs) a) rs es
 unfolding step lengthsOk lengthsAre createdStore freshPartitions
 create-left s es rs a = (refl, split (accepted (createAnswer a (lengthsOk (storeOf s rs es)))) (λ t. rw t) (λ f. rw
     f))

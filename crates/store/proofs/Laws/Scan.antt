@@ -18,7 +18,7 @@ use Rattle.lists.specs.Lists.{ones}
 use Rattle.lists.proofs.Laws.Bools.{split, and-false}
 use Rattle.rules.specs.Limits.{partitionsMax, areasMax, rowsMax, entriesMax}
 use Rattle.rules.specs.Bitmap.{bytesFor, packed, bitmapAfter}
-use Rattle.rules.specs.Store.{entriesAt, rowsAt, spansAt}
+use Rattle.rules.specs.Store.{Store, entriesAt, rowsAt, spansAt}
 use Rattle.rules.specs.WellFormed.{wellFormed}
 use Rattle.rules.specs.Calls.{refuse, isReader, seesOf, appliesOf, flagsAt, scanAnswer}
 use Rattle.rules.specs.Step.{Outcome, scanOutcome, step, scan}
@@ -91,18 +91,18 @@ module _ (n : ℕ) (bits lent : List ℕ) where
   unfolding copied
   copied-fits b h = rw (le-leb n 64 b, le-leb n (length lent) h)
 
--- ---- a scan carried out, with these bytes lent
+-- ---- a scan of the store st carried out, with these bytes lent
 
-abbrev pub Carried : List ℕ → Outcome → Look → Type 0
-Carried lent out w = Showed out (w .answer) (copied (w .count) (w .bits) lent)
+abbrev pub Carried : List ℕ → Store → Outcome → Look → Type 0
+Carried lent st out w = Showed out (w .answer) (copied (w .count) (w .bits) lent) st
 
 copied-none : (bits lent : List ℕ) → copied 0 bits lent ≡ lent
 unfolding copied
 copied-none bits lent = rw (le-leb 0 (length lent) (omega arith))
 
 refused-left : (r : Refusal) (s : State) (es : List Entry) (rs lent : List ℕ) (flags : List Bool)
-    → Carried lent (scanOutcome (Refused r) flags lent (storeOf s rs es)) (refusedLook r)
-refused-left r s es rs lent flags = rw (refused r) (refl, copied-none noBits lent)
+    → Carried lent (storeOf s rs es) (scanOutcome (Refused r) flags lent (storeOf s rs es)) (refusedLook r)
+refused-left r s es rs lent flags = rw (refused r) (refl, copied-none noBits lent, refl)
 
 -- the flags' bytes in 64 of 0, copied over those lent
 copied-bits : (flags : List Bool) (lent : List ℕ) (rows : ℕ) → length flags ≡ rows → bytesFor rows ≤ 64
@@ -162,7 +162,7 @@ module _ (s : State) (es : List Entry) (rs : List ℕ) (ok : StoreOk (storeOf s 
         ∙ ap (λ f. bitmapAfter f noBits) same-flags
 
     scan-room : (lent : List ℕ)
-        → Carried lent (scanOutcome
+        → Carried lent (storeOf s rs es) (scanOutcome
           (refuse ShortBitmap (ltb (length lent) (bytesFor (partitionOf p s .rows)))
           (Scanned (partitionOf p s .rows) (ones (flagsAt r p (storeOf s rs es)))))
           (flagsAt r p (storeOf s rs es)) lent (storeOf s rs es))
@@ -173,11 +173,11 @@ module _ (s : State) (es : List Entry) (rs : List ℕ) (ok : StoreOk (storeOf s 
         (λ t. rw t (refused-left ShortBitmap s es rs lent (flagsAt r p st)))
         (λ f. rw (f, ones-are, bits-are) (refl,
           copied-bits (flagsAt r p st) lent (q .rows) flags-rows (bytes-fit (q .rows) (entries-facts .rows-fit))
-            (ltb-false (length lent) n f)))
+            (ltb-false (length lent) n f), refl))
 
 look-left : (s : State) → length (s .partitions .at) ≡ partitionsMax → (es : List Entry) (rs lent : List ℕ) (p : ℕ)
     (r : Reader) (v : View) → seesView v ≡ seesOf r (s .manager) → appliesView v ≡ appliesOf r (s .manager)
-    → Carried lent (step (scan r p lent) (storeOf s rs es))
+    → Carried lent (storeOf s rs es) (step (scan r p lent) (storeOf s rs es))
       (lookBy (isReader r (s .manager)) v s (tableOf es) (length es) (length rs) (length lent) p)
 unfolding step scanAnswer
 look-left s n es rs lent p r v sees applies = let st = storeOf s rs es in let flags = flagsAt r p st in
@@ -193,12 +193,12 @@ look-left s n es rs lent p r v sees applies = let st = storeOf s rs es in let fl
 
 module _ (s : State) (n : length (s .partitions .at) ≡ partitionsMax) (es : List Entry) (rs lent : List ℕ) (i p : ℕ)
     where
-  pub rw-left : Carried lent (step (scan (Rw i) p lent) (storeOf s rs es))
+  pub rw-left : Carried lent (storeOf s rs es) (step (scan (Rw i) p lent) (storeOf s rs es))
       (rwLook s (tableOf es) (length es) (length rs) (length lent) i p)
   unfolding rwLook seesOf appliesOf seesView appliesView
   rw-left = look-left s n es rs lent p (Rw i) (rwView i (s .manager)) refl refl
 
-  pub ro-left : Carried lent (step (scan (Ro i) p lent) (storeOf s rs es))
+  pub ro-left : Carried lent (storeOf s rs es) (step (scan (Ro i) p lent) (storeOf s rs es))
       (roLook s (tableOf es) (length es) (length rs) (length lent) i p)
   unfolding roLook seesOf appliesOf seesView appliesView
   ro-left = look-left s n es rs lent p (Ro i) (roView i (s .manager)) refl refl

@@ -41,8 +41,8 @@ use Rattle.partition.proofs.Laws.Rows.{putRows-out}
 use Rattle.partition.proofs.Laws.Append.{over-none}
 use Rattle.partition.proofs.Laws.Written.{append-full, append-written, append-laid}
 use Rattle.partition.proofs.Laws.Written.{clear-full, clear-written, clear-laid}
-use Rattle.store.specs.Kept.{storeOf}
-use Rattle.store.specs.Write.{Wrote, refusedWrite, plannedWrite, partitionOf}
+use Rattle.store.specs.Kept.{storeOf, Left}
+use Rattle.store.specs.Write.{refusedWrite, plannedWrite, partitionOf}
 use Rattle.store.specs.Write.{appendWrite, clearWrite, doneWrite}
 use Rattle.store.specs.declared.write.Write.{Write}
 use Rattle.store.proofs.Laws.Kept.{sound-is}
@@ -53,7 +53,7 @@ state-8 s vs g = partitions-8 (s .partitions) _ (g .1 .1 .1 .0)
 -- ---- a write carried out, with the batch bs
 
 abbrev pub Carried : List Entry → List ℕ → List ℕ → Outcome → Write → Type 0
-Carried es rs bs out w = Wrote out (doneWrite w) (set es (w .at) (w .entry)) (putRows (w .row) bs rs)
+Carried es rs bs out w = Left out (doneWrite w) (putRows (w .row) bs rs) (set es (w .at) (w .entry))
 
 put-none : (n : ℕ) (xs : List ℕ) → putRows n [] xs ≡ xs
 unfolding putRows
@@ -67,7 +67,7 @@ put-past (b ∷ bs) xs = putRows-out (length xs) (b ∷ bs) xs (omega arith)
 refused-left : (r : Refusal) (s : State) (es : List Entry) (rs bs : List ℕ) (next : Store)
     → Carried es rs bs (outcome (Refused r) next (storeOf s rs es)) (refusedWrite s (length es) (length rs) r)
 refused-left r s es rs bs next =
-    rw (refused r) (refl, refl, set-out es (length es) none (omega arith), put-past bs rs)
+    rw (refused r) (refl, λ j. storeOf s (put-past bs rs j) (set-out es (length es) none (omega arith) j))
 
 -- ---- append
 
@@ -85,7 +85,7 @@ module _ (s : State) (es : List Entry) (rs : List ℕ) (ok : StoreOk (storeOf s 
       let c = ok .partition p h .row-count in
       let e : length (wordsOf (appended i bs (spansAt p st))) ≡ partitionOf p s .rows + length bs =
         rw (words-appended i bs (spansAt p st)) (simp length-append (omega arith)) in
-      rw (append-laid st ok p h i bs full) (ap Appended (sym (w .row-count) ∙ e), refl, refl, refl)
+      rw (append-laid st ok p h i bs full) (ap Appended (sym (w .row-count) ∙ e), refl)
 
   append-room : (bs : List ℕ)
       → Carried es rs bs (outcome
@@ -139,7 +139,7 @@ module _ (s : State) (es : List Entry) (rs : List ℕ) (ok : StoreOk (storeOf s 
       let st = storeOf s rs es in let w = clear-written st ok p h i full in
       let c = ok .partition p h .entry-count in let l = length-cleared i (spansAt p st) in let n = w .entry-count in
       let e : clearPlan (partitionOf p s) i .entries ≡ suc (partitionOf p s .entries) = omega arith in
-      rw (clear-laid st ok p h i full) (ap Cleared e, refl, refl, refl)
+      rw (clear-laid st ok p h i full) (ap Cleared e, refl)
 
   clear-room : Carried es rs [] (outcome
       (refuse EntriesFull (leb entriesMax (partitionOf p s .entries)) (Cleared (suc (partitionOf p s .entries))))
@@ -170,6 +170,7 @@ clear-carried s n es rs i p = let st = storeOf s rs es in
 pub clear-left : (s : State) → length (s .partitions .at) ≡ partitionsMax → (es : List Entry) (rs : List ℕ) (i p :
     ℕ)
     → let w = clearWrite s (tableOf es) (length es) (length rs) i p in
-      Wrote (step (clear i p) (storeOf s rs es)) (doneWrite w) (set es (w .at) (w .entry)) rs
+      Left (step (clear i p) (storeOf s rs es)) (doneWrite w) rs (set es (w .at) (w .entry))
 clear-left s n es rs i p = let c = clear-carried s n es rs i p in
-    (c .0, c .1, c .2, sym (put-none (clearWrite s (tableOf es) (length es) (length rs) i p .row) rs) ∙ c .3)
+    let w = clearWrite s (tableOf es) (length es) (length rs) i p in
+    (c .0, ap (λ (xs : List ℕ). storeOf (w .state) xs (set es (w .at) (w .entry))) (sym (put-none (w .row) rs)) ∙ c .1)

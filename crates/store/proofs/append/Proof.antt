@@ -10,8 +10,8 @@ use Rattle.rules.specs.Step.{step, append as append-call}
 use Rattle.rules.specs.declared.Entry.{Entry}
 use Rattle.rules.specs.declared.State.{State}
 use Rattle.partition.specs.Rows.{putRows}
-use Rattle.store.specs.Kept.{storeOf}
-use Rattle.store.specs.Write.{Wrote, appendWrite, doneWrite}
+use Rattle.store.specs.Kept.{storeOf, Left}
+use Rattle.store.specs.Write.{appendWrite, doneWrite}
 use Rattle.store.specs.declared.Kept.{Kept}
 use Rattle.store.specs.declared.write.Write.{Write}
 use Rattle.lent.proofs.Shown.{LoadAll}
@@ -40,7 +40,7 @@ abbrev rowsBy : List ℕ → List ℕ → Write → List ℕ
 rowsBy rs bs w = putRows (w .row) bs rs
 
 abbrev Ends : State → List Entry → List ℕ → List ℕ → ℕ → ℕ → Kept → List Entry → List ℕ → Type 0
-Ends s es rs bs i p r es′ rs′ = Wrote (step (append-call i p bs) (storeOf s rs es)) r es′ rs′
+Ends s es rs bs i p r es′ rs′ = Left (step (append-call i p bs) (storeOf s rs es)) r rs′ es′
 
 pub append-spec : {M : Type 1} → stated.statement M
 unfolding code.routine tablesOf

@@ -9,8 +9,8 @@ use denote.Triple.Table.{entered, cited}
 use Rattle.rules.specs.Step.{step, clear as clear-call}
 use Rattle.rules.specs.declared.Entry.{Entry}
 use Rattle.rules.specs.declared.State.{State}
-use Rattle.store.specs.Kept.{storeOf}
-use Rattle.store.specs.Write.{Wrote, clearWrite, doneWrite}
+use Rattle.store.specs.Kept.{storeOf, Left}
+use Rattle.store.specs.Write.{clearWrite, doneWrite}
 use Rattle.store.specs.declared.Kept.{Kept}
 use Rattle.store.specs.declared.write.Write.{Write}
 use Rattle.lent.proofs.Shown.{LoadAll}
@@ -39,7 +39,7 @@ abbrev rowsBy : List ℕ → Write → List ℕ
 rowsBy rs w = rs
 
 abbrev Ends : State → List Entry → List ℕ → ℕ → ℕ → Kept → List Entry → List ℕ → Type 0
-Ends s es rs i p r es′ rs′ = Wrote (step (clear-call i p) (storeOf s rs es)) r es′ rs′
+Ends s es rs i p r es′ rs′ = Left (step (clear-call i p) (storeOf s rs es)) r rs′ es′
 
 pub clear-spec : {M : Type 1} → stated.statement M
 unfolding code.routine tablesOf

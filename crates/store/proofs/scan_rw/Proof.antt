@@ -38,7 +38,7 @@ abbrev answerOf : Look → Answer
 answerOf w = w .answer
 
 abbrev Ends : State → List Entry → List ℕ → List ℕ → ℕ → ℕ → Answer → List ℕ → Type 0
-Ends s es rs bs i p r bs′ = Showed (step (scan (Rw i) p bs) (storeOf s rs es)) r bs′
+Ends s es rs bs i p r bs′ = Showed (step (scan (Rw i) p bs) (storeOf s rs es)) r bs′ (storeOf s rs es)
 
 pub scan-rw-spec : {M : Type 1} → stated.statement M
 unfolding code.routine tablesOf
