@@ -3,6 +3,7 @@ pub mod lent;
 
 use rules::Clock;
 ghost use mathlib.Core.Path.{_≡_};
+ghost use Prim.Native.Nat.{_-_};
 ghost use Rattle.epoch.specs.Epochs.{startOf};
 ghost use Rattle.epoch.specs.Ticks.{ticked};
 
@@ -33,6 +34,13 @@ impl Epoch {
         }
         Start::At(Self { number: s })
     }
+}
+
+// The epoch before s; 0 is before all.
+pub fn predecessor(s: u64) -> u64
+    ensures { λ r. ⌜ r ≡ s - 1 ⌝ }
+{
+    if s == 0 { 0 } else { s - 1 }
 }
 
 // What the clock hands out, and the clock after it.

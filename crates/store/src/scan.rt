@@ -94,10 +94,10 @@ pub fn rw_core(state: State, t: Table, n: usize, m: usize, k: usize, i: u64, p: 
         return refused(Refusal::UnknownPartition);
     }
     let manager = state.manager;
-    if !txn::find::has_open(manager, i) {
+    if !txn_find::has_open(manager, i) {
         return refused(Refusal::NotOpen);
     }
-    let deps = txn::find::deps_at(manager, i);
+    let deps = txn_find::deps_at(manager, i);
     let v = View { epoch: i, rw: 1, deps: deps };
     let partitions = state.partitions;
     let place = p as usize;
@@ -116,10 +116,10 @@ pub fn ro_core(state: State, t: Table, n: usize, m: usize, k: usize, i: u64, p: 
         return refused(Refusal::UnknownPartition);
     }
     let manager = state.manager;
-    if !txn::find::has_reader(manager, i) {
+    if !txn_find::has_reader(manager, i) {
         return refused(Refusal::NotOpen);
     }
-    let epoch = txn::find::epoch_at(manager, i);
+    let epoch = txn_find::epoch_at(manager, i);
     let deps = Deps { at: [0; DEPS], count: 0 };
     let v = View { epoch: epoch, rw: 0, deps: deps };
     let partitions = state.partitions;

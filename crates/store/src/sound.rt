@@ -37,5 +37,5 @@ pub fn is_sound(state: State, t: Table, n: usize, m: usize) -> bool
         return false;
     }
     let manager = state.manager;
-    txn::sound::manager_ok(manager)
+    txn_sound::manager_ok(manager)
 }

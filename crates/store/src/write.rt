@@ -71,7 +71,7 @@ fn is_open(state: State, i: u64) -> bool
     ensures { λ r. ⌜ r ≡ hasOpen i (state .manager) ⌝ }
 {
     let manager = state.manager;
-    txn::find::has_open(manager, i)
+    txn_find::has_open(manager, i)
 }
 
 // k rows by transaction i to partition p.

@@ -1,9 +1,5 @@
+pub mod Books
 pub mod Begin
-pub mod Close
 pub mod Cut
-pub mod Find
-pub mod Lowest
-pub mod Places
-pub mod Scan
+pub mod Close
 pub mod Settle
-pub mod Sound

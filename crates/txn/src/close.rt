@@ -1,11 +1,11 @@
 // Commit and roll back, in the manager: close, then settle LCE. 01 "The books", Commit, roll back; 004 III-B "LCE".
-use crate::WRITERS_MAX;
-use crate::find::least;
-use crate::find::no_deps;
 use crate::start::no_rw;
 use rules::Manager;
 use rules::RwTxn;
 use rules::RwTxns;
+use txn_find::WRITERS_MAX;
+use txn_find::least;
+use txn_find::no_deps;
 ghost use mathlib.Core.Path.{_≡_};
 ghost use Prim.Native.Nat.{suc, _<_, _≤_};
 ghost use lib.ListN.{take};

@@ -2,19 +2,19 @@
 // Each call is answered by 01's refusals in 01's order, and a refusal hands the manager back as it was. rest says whether
 // the rest of the store is sound; the manager's own soundness is tested here.
 pub mod close;
-pub mod find;
 pub mod read_only;
-pub mod safe;
-pub mod sound;
 pub mod start;
 
 use close::Books;
 use epoch::Epoch;
 use epoch::Start;
-use find::Found;
 use rules::Answer;
 use rules::Manager;
 use rules::Refusal;
+use txn_find::Found;
+use txn_find::LAST_TICKET;
+use txn_find::READERS_MAX;
+use txn_find::WRITERS_MAX;
 ghost use mathlib.Core.Bool.{_&&_};
 ghost use mathlib.Core.Path.{_≡_};
 ghost use Rattle.rules.specs.Begin.{createdManager, begunManager};
@@ -24,12 +24,6 @@ ghost use Rattle.rules.specs.Safe.{advancedManager};
 ghost use Rattle.rules.specs.WellFormed.{managerOk};
 ghost use Rattle.rules.specs.Calls.{createAnswer, beginAnswer, closeAnswer, beginRoAnswer, endRoAnswer, advanceLseAnswer};
 ghost use Rattle.txn.specs.Managed.{managed, movedTo, refusedWith};
-
-// The numbers of 01 that the manager keeps to; rules/specs/Limits.antt has each under its own name.
-pub const WRITERS_MAX: usize = 32;
-pub const READERS_MAX: usize = 32;
-pub const DEPS_MAX: usize = 31;
-pub const LAST_TICKET: u64 = 4294967295;
 
 // What a call answers, and the manager after it.
 pub struct Managed {
@@ -50,7 +44,7 @@ fn is_sound(m: Manager, rest: bool) -> bool
     ensures { λ r. ⌜ r ≡ rest && managerOk m ⌝ }
 {
     if rest {
-        return sound::manager_ok(m);
+        return txn_sound::manager_ok(m);
     }
     false
 }
@@ -102,7 +96,7 @@ pub fn commit(m: Manager, rest: bool, i: u64) -> Managed
         return refused(m, Refusal::Unsound);
     }
     let ts = m.writers;
-    let Found::At(j) = find::find_writer(ts, i) else {
+    let Found::At(j) = txn_find::find_writer(ts, i) else {
         return refused(m, Refusal::NotOpen);
     };
     let books = Books { manager: m };
@@ -123,7 +117,7 @@ pub fn roll_back(m: Manager, rest: bool, i: u64) -> Managed
         return refused(m, Refusal::Unsound);
     }
     let ts = m.writers;
-    let Found::At(j) = find::find_writer(ts, i) else {
+    let Found::At(j) = txn_find::find_writer(ts, i) else {
         return refused(m, Refusal::NotOpen);
     };
     let books = Books { manager: m };
@@ -172,7 +166,7 @@ pub fn end_ro(m: Manager, rest: bool, t: u64) -> Managed
         return refused(m, Refusal::Unsound);
     }
     let ps = m.readers;
-    let Found::At(j) = find::find_reader(ps, t) else {
+    let Found::At(j) = txn_find::find_reader(ps, t) else {
         return refused(m, Refusal::NotOpen);
     };
     let next = read_only::ended_ro(m, j);
@@ -203,7 +197,7 @@ pub fn advance_lse(m: Manager, rest: bool, t: u64) -> Managed
         return refused(m, Refusal::Unsound);
     }
     if t == 0 {
-        return moved_to(m, safe::greatest(m));
+        return moved_to(m, txn_safe::greatest(m));
     }
     if t < m.clock.lse {
         return refused(m, Refusal::OutOfRange);
@@ -211,7 +205,7 @@ pub fn advance_lse(m: Manager, rest: bool, t: u64) -> Managed
     if m.clock.lce < t {
         return refused(m, Refusal::OutOfRange);
     }
-    if safe::is_blocked(m, t) {
+    if txn_safe::is_blocked(m, t) {
         return refused(m, Refusal::Blocked);
     }
     moved_to(m, t)

@@ -1,8 +1,5 @@
 // Making new and begin, in the manager. 01 "The books", first paragraph and Begin; 004 III-B "EC".
-use crate::DEPS_MAX;
-use crate::READERS_MAX;
-use crate::WRITERS_MAX;
-use crate::find::no_deps;
+use epoch::predecessor;
 use rules::Clock;
 use rules::Deps;
 use rules::Manager;
@@ -10,9 +7,13 @@ use rules::RoTxn;
 use rules::RoTxns;
 use rules::RwTxn;
 use rules::RwTxns;
+use txn_find::DEPS_MAX;
+use txn_find::READERS_MAX;
+use txn_find::WRITERS_MAX;
+use txn_find::no_deps;
 ghost use mathlib.Core.Bool.{true};
 ghost use mathlib.Core.Path.{_≡_};
-ghost use Prim.Native.Nat.{_-_, _<_, _≤_};
+ghost use Prim.Native.Nat.{_<_, _≤_};
 ghost use lib.ListN.{take};
 ghost use Rattle.rules.specs.Limits.{lastEpoch};
 ghost use Rattle.rules.specs.Manager.{noRw, noRo, depsWith, openEpochs};
@@ -38,12 +39,6 @@ pub(crate) fn no_ro() -> RoTxn
         ticket: 0,
         epoch: 0,
     }
-}
-
-pub(crate) fn predecessor(s: u64) -> u64
-    ensures { λ r. ⌜ r ≡ s - 1 ⌝ }
-{
-    if s == 0 { 0 } else { s - 1 }
 }
 
 // The manager that making new leaves, whatever s is; whether s names an epoch is Epoch::new's to say.

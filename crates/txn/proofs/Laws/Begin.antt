@@ -24,8 +24,8 @@ use Rattle.rules.specs.declared.RwTxn.{RwTxn}
 use Rattle.rules.specs.declared.RoTxn.{RoTxn}
 use Rattle.rules.specs.declared.Manager.{Manager}
 use Rattle.rules.proofs.Laws.Manager.{ManagerFacts, manager-facts}
-use Rattle.txn.proofs.Laws.Places.{pastRw}
-use Rattle.txn.proofs.Laws.Scan.{padded, pad-push}
+use Rattle.txn_find.proofs.Laws.Places.{pastRw}
+use Rattle.txn_find.proofs.Laws.Scan.{padded, pad-push}
 
 -- ---- the deps
 

@@ -25,11 +25,11 @@ use Rattle.rules.specs.declared.Manager.{Manager}
 use Rattle.rules.proofs.Laws.Manager.{epochs, manager-facts, opens-epoch}
 use Rattle.rules.proofs.Laws.Close.{epochs-committed}
 use Rattle.txn.specs.Close.{cut, waitedAt, Tidy, TidyReaders, RisingOf}
-use Rattle.txn.specs.Find.{findFrom, writerAt, readerAt}
-use Rattle.txn.specs.declared.find.Found.the-variants.{At}
-use Rattle.txn.proofs.Laws.Places.{pastRw}
-use Rattle.txn.proofs.Laws.Scan.{padded}
-use Rattle.txn.proofs.Laws.Find.{writer-stands, reader-stands}
+use Rattle.txn_find.specs.Find.{findFrom, writerAt, readerAt}
+use Rattle.txn_find.specs.declared.Found.the-variants.{At}
+use Rattle.txn_find.proofs.Laws.Places.{pastRw}
+use Rattle.txn_find.proofs.Laws.Scan.{padded}
+use Rattle.txn_find.proofs.Laws.Find.{writer-stands, reader-stands}
 use Rattle.txn.proofs.Laws.Cut.{drop-one, change-one}
 use Rattle.txn.proofs.Laws.Begin.{unused-rw, unused-ro}
 

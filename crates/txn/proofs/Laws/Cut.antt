@@ -17,9 +17,9 @@ use Rattle.lists.proofs.Laws.Bools.{split}
 use Rattle.lists.proofs.Laws.Order.{rises-split}
 use Rattle.lists.proofs.Laws.Parts.{drop-pad}
 use Rattle.txn.specs.Close.{cut}
-use Rattle.txn.specs.Find.{findFrom}
-use Rattle.txn.specs.declared.find.Found.the-variants.{At}
-use Rattle.txn.proofs.Laws.Scan.{length-pad}
+use Rattle.txn_find.specs.Find.{findFrom}
+use Rattle.txn_find.specs.declared.Found.the-variants.{At}
+use Rattle.txn_find.proofs.Laws.Scan.{length-pad}
 
 -- ---- the only one that passes: p finds the elements numbered i, and the numbers rise
 

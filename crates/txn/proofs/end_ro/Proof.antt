@@ -5,8 +5,8 @@ use borrow.Author.Tests.{not-true, not-false}
 use Rattle.lists.proofs.Laws.Bools.{and-right}
 use Rattle.rules.specs.Calls.{endRoAnswer}
 use Rattle.rules.specs.WellFormed.{managerOk}
-use Rattle.txn.proofs.Laws.Places.{manager-readers-32}
-use Rattle.txn.proofs.Laws.Find.{reader-stands, no-reader}
+use Rattle.txn_find.proofs.Laws.Places.{manager-readers-32}
+use Rattle.txn_find.proofs.Laws.Find.{reader-stands, no-reader}
 use Rattle.txn.proofs.Laws.Close.{readers-tidy, readers-room, reader-place, end-is}
 use borrow.Author.Needs.{needs}
 use Rattle.txn.proofs.end_ro.Statement.{statement}

@@ -9,7 +9,7 @@ use Prim.Native.Nat.{ℕ, _+_, _≤_, _-_}
 use native.Mathlib.Omega.{arith}
 use lib.ListN.{length, take, drop}
 use Rattle.rules.specs.Manager.{noRw}
-use Rattle.txn.proofs.Laws.Places.{writers-32, pastRw}
+use Rattle.txn_find.proofs.Laws.Places.{writers-32, pastRw}
 use Rattle.txn.proofs.Laws.Cut.{target, cut-start, cut-moves, cut-clears, cut-end, cut-length}
 use Rattle.txn.proofs.close.cut_writers.Statement.{statement}
 use Rattle.txn.proofs.close.cut_writers.Tie as tie

@@ -7,8 +7,8 @@ use Prim.Native.Nat.{_≤_, _-_, min}
 use native.Mathlib.Omega.{arith}
 use borrow.Author.Tests.{eq-eqb, ne-eqb}
 use lib.ListN.{length, take, getD}
-use Rattle.txn.proofs.Laws.Places.{writers-32, pastRw}
-use Rattle.txn.proofs.Laws.Scan.{used-next, used-end}
+use Rattle.txn_find.proofs.Laws.Places.{writers-32, pastRw}
+use Rattle.txn_find.proofs.Laws.Scan.{used-next, used-end}
 use Rattle.txn.proofs.Laws.Settle.{Reaching, reach-open, reach-on, reach-end}
 use Rattle.txn.proofs.close.reach.Statement.{statement}
 use Rattle.txn.proofs.close.reach.Tie as tie

@@ -4,7 +4,7 @@ use mathlib.Core.Path.{sym}
 use native.Mathlib.Omega.{arith}
 use Rattle.rules.specs.ReadOnly.{snapshotEpoch}
 use Rattle.rules.proofs.Laws.Limits.{lastTicket-fits}
-use Rattle.txn.proofs.Laws.Places.{manager-readers-32}
+use Rattle.txn_find.proofs.Laws.Places.{manager-readers-32}
 use Rattle.txn.proofs.Laws.Begin.{begun-ro-is}
 use borrow.Author.Needs.{needs}
 use Rattle.txn.proofs.read_only.begun_ro.Statement.{statement}

@@ -9,7 +9,7 @@ use Prim.Native.Nat.{ℕ, _+_, _≤_, _-_}
 use native.Mathlib.Omega.{arith}
 use lib.ListN.{length, take, drop}
 use Rattle.rules.specs.Manager.{noRo}
-use Rattle.txn.proofs.Laws.Places.{readers-32}
+use Rattle.txn_find.proofs.Laws.Places.{readers-32}
 use Rattle.txn.proofs.Laws.Cut.{target, cut-start, cut-moves, cut-clears, cut-end, cut-length}
 use Rattle.txn.proofs.read_only.cut_readers.Statement.{statement}
 use Rattle.txn.proofs.read_only.cut_readers.Tie as tie

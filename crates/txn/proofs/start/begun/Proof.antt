@@ -2,7 +2,7 @@
 -- Assumes nothing.
 use mathlib.Core.Path.{sym, _∙_}
 use Rattle.epoch.proofs.Laws.Ticks.{ticked-next}
-use Rattle.txn.proofs.Laws.Places.{manager-writers-32, manager-writers-31}
+use Rattle.txn_find.proofs.Laws.Places.{manager-writers-32, manager-writers-31}
 use Rattle.txn.proofs.Laws.Begin.{begun-is}
 use borrow.Author.Needs.{needs}
 use Rattle.txn.proofs.start.begun.Statement.{statement}

@@ -8,7 +8,7 @@ use Prim.Native.Nat.{_≤_, _<_, _-_}
 use native.Mathlib.Omega.{arith}
 use borrow.Author.Tests.{eq-eqb, ne-eqb}
 use lib.ListN.{length}
-use Rattle.txn.proofs.Laws.Places.{writers-32}
+use Rattle.txn_find.proofs.Laws.Places.{writers-32}
 use Rattle.txn.proofs.Laws.Begin.{Collected, collect, pass}
 use Rattle.txn.proofs.start.open_deps.Statement.{statement}
 use Rattle.txn.proofs.start.open_deps.Tie as tie

@@ -6,7 +6,7 @@ use native.Mathlib.Omega.{arith}
 use lib.ListN.{length-take}
 use Rattle.rules.specs.Manager.{writersOf}
 use Rattle.txn.specs.declared.close.Reached.{Reached}
-use Rattle.txn.proofs.Laws.Places.{books-writers-32}
+use Rattle.txn.proofs.Laws.Books.{books-writers-32}
 use Rattle.txn.proofs.Laws.Settle.{lead-length, settled-runs, settled-still}
 use borrow.Author.Needs.{needs}
 use Rattle.txn.proofs.close.Books.settled.Statement.{statement}

@@ -1,0 +1,26 @@
+-- The place of the first record that passes a test. 01 "Refusals that come from the input", 2: an open load or
+-- page.
+-- Laws: proofs/Laws/Find.antt.
+-- Assumes nothing.
+use mathlib.Core.Bool.{Bool, cond}
+use mathlib.Core.List.{List, [], _∷_}
+use Prim.Native.Nat.{ℕ, _+_}
+use lib.ListN.{take}
+use Rattle.rules.specs.Manager.{opens, hasTicket}
+use Rattle.rules.specs.declared.RwTxns.{RwTxns}
+use Rattle.rules.specs.declared.RoTxns.{RoTxns}
+use Rattle.txn_find.specs.declared.Found.{Found}
+use Rattle.txn_find.specs.declared.Found.the-variants.{At, Nothing}
+
+-- counted from n
+abbrev pub findFrom : {A : Type 0} → (A → Bool) → List A → ℕ → Found
+findFrom p [] n = Nothing
+findFrom p (x ∷ xs) n = cond (p x) (At n) (findFrom p xs (n + 1))
+
+-- the open transaction of epoch i, among the records in use
+unfoldable pub writerAt : ℕ → RwTxns → Found
+writerAt i ts = findFrom (opens i) (take (ts .count) (ts .at)) 0
+
+-- the read-only transaction of ticket t
+unfoldable pub readerAt : ℕ → RoTxns → Found
+readerAt t ps = findFrom (hasTicket t) (take (ps .count) (ps .at)) 0

@@ -1,0 +1,123 @@
+// Where a transaction stands in the manager. 01 "Refusals that come from the input", 2.
+use rules::Deps;
+use rules::Manager;
+use rules::RoTxns;
+use rules::RwTxns;
+ghost use mathlib.Core.Path.{_≡_};
+ghost use mathlib.Core.Bool.{_&&_};
+ghost use Prim.Native.Nat.{min};
+ghost use lib.Dec.{eqb};
+ghost use Rattle.lists.specs.Lists.{firstOf};
+ghost use Rattle.rules.specs.Manager.{opens, noRw, noDeps, writersOf, hasOpen, hasReader, epochAt};
+ghost use Rattle.txn_find.specs.Find.{writerAt, readerAt};
+
+// The numbers of 01 that the manager keeps to; rules/specs/Limits.antt has each under its own name.
+pub const WRITERS_MAX: usize = 32;
+pub const READERS_MAX: usize = 32;
+pub const DEPS_MAX: usize = 31;
+pub const LAST_TICKET: u64 = 4294967295;
+
+// The place of a record, or that there is none.
+pub enum Found {
+    At(usize),
+    Nothing,
+}
+
+// The smaller of a count and the number of places.
+pub fn least(count: usize, places: usize) -> usize
+    ensures { λ r. ⌜ r ≡ min count places ⌝ }
+{
+    if count < places { count } else { places }
+}
+
+// A record with these words is open and has epoch i.
+fn is_open_at(waiting: u64, epoch: u64, i: u64) -> bool
+    ensures { λ r. ⌜ r ≡ eqb waiting 0 && eqb epoch i ⌝ }
+{
+    if waiting == 0 { epoch == i } else { false }
+}
+
+// The place of the open transaction of epoch i.
+pub fn find_writer(ts: RwTxns, i: u64) -> Found
+    ensures { λ r. ⌜ r ≡ writerAt i ts ⌝ }
+{
+    let n = least(ts.count, WRITERS_MAX);
+    let mut j: usize = 0;
+    while j < n {
+        if is_open_at(ts.at[j].waiting, ts.at[j].epoch, i) {
+            return Found::At(j);
+        }
+        j += 1;
+    }
+    Found::Nothing
+}
+
+// The place of the read-only transaction of ticket t.
+pub fn find_reader(ps: RoTxns, t: u64) -> Found
+    ensures { λ r. ⌜ r ≡ readerAt t ps ⌝ }
+{
+    let n = least(ps.count, READERS_MAX);
+    let mut j: usize = 0;
+    while j < n {
+        if ps.at[j].ticket == t {
+            return Found::At(j);
+        }
+        j += 1;
+    }
+    Found::Nothing
+}
+
+// What stands in the deps of an unused place.
+pub fn no_deps() -> Deps
+    ensures { λ r. ⌜ r ≡ noDeps ⌝ }
+{
+    Deps {
+        at: [0; DEPS_MAX],
+        count: 0,
+    }
+}
+
+pub fn has_open(m: Manager, i: u64) -> bool
+    ensures { λ r. ⌜ r ≡ hasOpen i m ⌝ }
+{
+    let ts = m.writers;
+    if let Found::At(_) = find_writer(ts, i) {
+        true
+    } else {
+        false
+    }
+}
+
+// The deps of the open transaction of epoch i, none where there is no such transaction.
+pub fn deps_at(m: Manager, i: u64) -> Deps
+    ensures { λ r. ⌜ r ≡ firstOf (opens i) noRw (writersOf m) .deps ⌝ }
+{
+    let ts = m.writers;
+    let Found::At(j) = find_writer(ts, i) else {
+        return no_deps();
+    };
+    let t = ts.at[j];
+    t.deps
+}
+
+pub fn has_reader(m: Manager, t: u64) -> bool
+    ensures { λ r. ⌜ r ≡ hasReader t m ⌝ }
+{
+    let ps = m.readers;
+    if let Found::At(_) = find_reader(ps, t) {
+        true
+    } else {
+        false
+    }
+}
+
+// The epoch of the read-only transaction of ticket t, 0 where there is no such transaction.
+pub fn epoch_at(m: Manager, t: u64) -> u64
+    ensures { λ r. ⌜ r ≡ epochAt t m ⌝ }
+{
+    let ps = m.readers;
+    let Found::At(j) = find_reader(ps, t) else {
+        return 0;
+    };
+    ps.at[j].epoch
+}

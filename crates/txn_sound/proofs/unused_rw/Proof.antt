@@ -1,0 +1,31 @@
+-- Every word of an unused place is 0.
+-- Assumes nothing.
+use borrow.Author.Tests.{eq-eqb, ne-eqb}
+use borrow.Author.Needs.{needs}
+use Rattle.txn_sound.proofs.unused_rw.Statement.{statement}
+use Rattle.txn_sound.proofs.unused_rw.Tie as tie
+
+returns : tie.Need-returns
+returns c = rw (ne-eqb _ _ (c .if1 .taken))
+
+returns-2 : tie.Need-returns-2
+returns-2 c =
+    let c2 = c .before .before in
+    rw (eq-eqb _ _ (c2 .if1 .left), ne-eqb _ _ (c .if2 .taken))
+
+returns-3 : tie.Need-returns-3
+returns-3 c =
+    let c3 = c .before .before .before in let c5 = c3 .before .before in
+    rw (eq-eqb _ _ (c5 .if1 .left), eq-eqb _ _ (c3 .if2 .left), ne-eqb _ _ (c .if3 .taken))
+
+zeros-from-requires : tie.Need-zeros-from-requires
+zeros-from-requires c κs = search needs
+
+returns-4 : tie.Need-returns-4
+returns-4 c =
+    let c4 = c .before .before .before .before in let c6 = c4 .before .before in
+    rw (eq-eqb _ _ (c6 .if1 .left), eq-eqb _ _ (c4 .if2 .left), eq-eqb _ _ (c .before .if3 .left))
+      (c .zeros-from .ensures)
+
+pub unused-rw-spec : {M : Type 1} → statement M
+unused-rw-spec = tie.close (tie.spec returns returns-2 returns-3 zeros-from-requires returns-4)
