@@ -1,0 +1,93 @@
+//! Runs the proved store's calls, by its static library, beside the model: on stores that histories made, on random
+//! well-formed stores that no history made, on stores spoilt in one field, and on areas of wrong lengths. Compared are the
+//! number, the values, and every word of the books, the areas and the bitmap at the end of each call.
+
+use compare::{call, numbers};
+use model::call::Call;
+use model::check::difference;
+use model::histories::{Calls, PROFILES};
+use model::partition::Entry;
+use model::random::Rng;
+use model::store::Store;
+use model::stores::{random_store, spoilt_store};
+use std::process::ExitCode;
+
+/// Rounds, if no other number is given.
+const ROUNDS: u64 = 20_000;
+/// Calls on one store.
+const CALLS: u64 = 12;
+
+/// How often each number was answered.
+type Tally = [u64; 11];
+
+/// Runs one call on both, and says where they differ.
+fn differs(one: &Call, store: &mut Store, tally: &mut Tally) -> Result<(), String> {
+    let mut proved = store.clone();
+    let mut bitmap = one.lent_bitmap();
+    let mut expected_bitmap = bitmap.clone();
+    let reply = call(one, &mut proved, &mut bitmap);
+    let expected = numbers(&one.run(store, &mut expected_bitmap));
+    proved.manager = reply.state;
+    tally[reply.number.min(10) as usize] += 1;
+    if (reply.number, reply.value, reply.second) != expected {
+        return Err(format!("answers {} {} {}, and the model {expected:?}", reply.number, reply.value, reply.second));
+    }
+    if proved != *store {
+        return Err(difference(&proved, store));
+    }
+    if bitmap != expected_bitmap {
+        return Err("the bitmaps differ".to_string());
+    }
+    Ok(())
+}
+
+/// A store for this round: what a history made, or any well-formed one, or one that is spoilt or of a wrong length.
+fn store_for(round: u64, calls: &mut Calls) -> Store {
+    let rng = &mut calls.rng;
+    match round % 4 {
+        0 => calls.first_store().0,
+        1 => random_store(rng),
+        2 => spoilt_store(rng).0,
+        _ => wrong_length(rng),
+    }
+}
+
+fn wrong_length(rng: &mut Rng) -> Store {
+    let mut store = random_store(rng);
+    match rng.below(4) {
+        0 => drop(store.rows.pop()),
+        1 => store.rows.push(0),
+        2 => drop(store.entries.pop()),
+        _ => store.entries.push(Entry::default()),
+    }
+    if rng.per_mille(100) {
+        store.rows.clear();
+    }
+    if rng.per_mille(100) {
+        store.entries.clear();
+    }
+    store
+}
+
+fn main() -> ExitCode {
+    let rounds = std::env::args().nth(1).and_then(|word| word.parse().ok()).unwrap_or(ROUNDS);
+    let mut tally: Tally = [0; 11];
+    for round in 0..rounds {
+        let profile = PROFILES[(round / 4) as usize % PROFILES.len()];
+        let mut calls = Calls::new(round, profile);
+        let mut store = store_for(round, &mut calls);
+        for _ in 0..CALLS {
+            let next = calls.next_call(&store);
+            if let Err(what) = differs(&next, &mut store, &mut tally) {
+                println!("round {round}, {}: {next:?}: {what}", profile.name);
+                return ExitCode::FAILURE;
+            }
+        }
+    }
+    if let Some(number) = tally.iter().position(|&count| count == 0) {
+        println!("no call was answered {number}: the comparison is too weak");
+        return ExitCode::FAILURE;
+    }
+    println!("library: {} calls on {rounds} stores agree; by number {tally:?}", rounds * CALLS);
+    ExitCode::SUCCESS
+}
