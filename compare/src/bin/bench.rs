@@ -1,74 +1,23 @@
-//! Times the proved functions of crate exports beside the model: the same input, both built for release, one thread,
-//! buffers not cleared between calls. Prints the best of nine runs in nanoseconds a call. The model's scans and purge are
-//! timed without its test of soundness, as the proved functions beside them have none; begin and commit test the books.
+//! Times the proved store beside the model: each call, by the static library, on an empty and on a full store, and the
+//! session program. The same input, both built for release, one thread, caches warm. Prints the best of nine runs.
 
-use model::clock::Clock;
-use model::partition::Entry;
+use compare::{call, numbers};
+use model::call::Call;
+use model::histories::{profile, Lines};
 use model::store::Store;
-use model::txn::{RoTable, RwTable};
 use model::visible::Reader;
 use std::hint::black_box;
+use std::io::Write;
+use std::process::{Command, Stdio};
 use std::time::Instant;
 
-#[repr(C)]
-#[derive(Clone, Copy)]
-struct Manager {
-    clock: Clock,
-    writers: RwTable,
-    readers: RoTable,
-}
-
-#[repr(C)]
-#[derive(Clone, Copy)]
-struct Deps {
-    at: [u64; 31],
-    count: usize,
-}
-
-#[repr(C)]
-#[derive(Clone, Copy)]
-struct View {
-    epoch: u64,
-    rw: u64,
-    deps: Deps,
-}
-
-/// 64 entries, those in use first: visible's Table and rewrite's Area.
-#[repr(C)]
-#[derive(Clone, Copy)]
-struct Area {
-    at: [Entry; 64],
-    count: usize,
-}
-
-#[repr(C)]
-#[derive(Clone, Copy)]
-struct Plan {
-    at: [u64; 64],
-}
-
-#[repr(C)]
-#[derive(Clone, Copy)]
-struct Rewritten {
-    area: Area,
-    rows: usize,
-}
-
-#[allow(improper_ctypes)]
-extern "C" {
-    fn nizgulk_begin_commit(m: Manager) -> Manager;
-    fn nizgulk_put_rows(rows: *mut u64, len: usize, at: usize, batch: *const u64, count: usize);
-    fn nizgulk_scan(v: View, t: Area, rows: usize, bitmap: *mut u8, len: usize) -> usize;
-    fn nizgulk_purge_plan(a: Area, l: u64) -> Plan;
-    fn nizgulk_roll_plan(a: Area, i: u64) -> Plan;
-    fn nizgulk_rewritten(a: Area, p: Plan) -> Rewritten;
-    fn nizgulk_copy_kept(rows: *mut u64, len: usize, a: Area, p: Plan, from: usize, to: usize);
-}
+const RUNS: usize = 9;
+const TURNS: u32 = 5_000;
+const LINES: usize = 200_000;
 
 fn best(mut call: impl FnMut()) -> f64 {
-    const TURNS: u32 = 20_000;
     let mut least = f64::MAX;
-    for _ in 0..9 {
+    for _ in 0..RUNS {
         let start = Instant::now();
         for _ in 0..TURNS {
             call();
@@ -78,108 +27,119 @@ fn best(mut call: impl FnMut()) -> f64 {
     least
 }
 
-/// A figure that was not measured is NaN, and prints as a dash.
-fn figure(ns: f64) -> String {
-    if ns.is_nan() {
-        return "-".to_string();
-    }
-    format!("{ns:.0} ns")
-}
-
-fn line(what: &str, proved: f64, model: f64) {
-    println!("{what:<44} {:>12} {:>12}", figure(proved), figure(model));
-}
-
-/// A store with 31 open loads, and partition 0 full: 512 rows in 64 entries of the loads 1 to 4 in turn.
+/// Eight lots of 512 rows in 64 entries by the loads 1, 2 and 5 in turn, 31 open loads, 32 pages; LSE is 2.
 fn full() -> Store {
     let mut store = Store::new(1);
-    for _ in 0..31 {
-        store.begin().expect("a load begins");
+    let run = |store: &mut Store, call: Call| assert_eq!(numbers(&call.run(store, &mut [])).0, 0, "{call:?}");
+    for _ in 0..5 {
+        run(&mut store, Call::Begin);
     }
     for turn in 0..64u64 {
-        store.append(turn % 4 + 1, 0, &[turn; 8]).expect("eight rows fit");
+        for partition in 0..8 {
+            let epoch = [1, 2, 5][turn as usize % 3];
+            run(&mut store, Call::Append { epoch, partition, rows: vec![turn; 8] });
+        }
     }
+    for epoch in 1..=4 {
+        run(&mut store, Call::Commit { epoch });
+    }
+    for _ in 0..32 {
+        run(&mut store, Call::Open { epoch: 2 });
+    }
+    for _ in 0..30 {
+        run(&mut store, Call::Begin);
+    }
+    // 01 holds LSE while a load has an epoch at or below it in its deps, so the first 4 are settled before the others begin.
+    store.manager.clock.lse = 2;
+    for load in &mut store.manager.rw.at {
+        let kept: Vec<u64> = load.deps[..load.deps_count as usize].iter().copied().filter(|&dep| dep > 4).collect();
+        load.deps = [0; 31];
+        load.deps[..kept.len()].copy_from_slice(&kept);
+        load.deps_count = kept.len() as u64;
+    }
+    assert!(model::sound::well_formed(&store));
     store
 }
 
-fn main() {
-    println!("{:<44} {:>12} {:>12}", "best of nine runs, a call", "proved", "model");
-    let store = full();
-    let books = &store.manager;
-    let manager = Manager { clock: books.clock, writers: books.rw, readers: books.ro };
-
-    let proved = best(|| {
-        black_box(unsafe { nizgulk_begin_commit(black_box(manager)) });
+/// The proved call and the model's, in nanoseconds; and the number that both answer.
+fn timed(store: &Store, one: &Call) -> (u64, f64, f64) {
+    let mut proved = store.clone();
+    let mut bitmap = one.lent_bitmap();
+    let number = call(one, &mut proved, &mut bitmap).number;
+    let by_proof = best(|| {
+        black_box(call(black_box(one), &mut proved, &mut bitmap));
     });
-    let trusted = |tested: bool| {
-        let mut one = full();
-        one.trusted = !tested;
-        let kept = one.manager;
-        best(|| {
-            one.manager = black_box(kept);
-            let epoch = one.begin().expect("a load begins");
-            black_box(one.commit(epoch).expect("it commits"));
-        })
-    };
-    line("begin and commit, 31 open loads", proved, trusted(true));
-    line("  the model without its test of soundness", f64::NAN, trusted(false));
+    let mut model = store.clone();
+    assert_eq!(numbers(&one.run(&mut model, &mut bitmap)).0, number);
+    let books = store.manager;
+    let by_model = best(|| {
+        model.manager = black_box(books);
+        black_box(numbers(&black_box(one).run(&mut model, &mut bitmap)));
+    });
+    (number, by_proof, by_model)
+}
 
-    let mut area = Area { at: [Entry::default(); 64], count: 64 };
-    area.at.copy_from_slice(&store.entries[..64]);
-    let mut rows = store.rows.clone();
-    let mut bitmap = [0u8; 64];
-    let deps = Deps { at: books.rw.at[30].deps.map(|d| d), count: books.rw.at[30].deps_count as usize };
-    let page = View { epoch: 3, rw: 0, deps };
-    let load = View { epoch: 31, rw: 1, deps };
-    let mut seen = |view: View| {
-        best(|| {
-            black_box(unsafe { nizgulk_scan(black_box(view), black_box(area), 512, bitmap.as_mut_ptr(), 64) });
-        })
-    };
-    let (by_page, by_load) = (seen(page), seen(load));
-    let mut closed = full();
-    for epoch in 1..=3 {
-        closed.commit(epoch).expect("it commits");
+fn calls(store: &str, on: &Store, list: &[Call]) {
+    println!("{:<44} {:>8} {:>12} {:>12}", store, "answer", "proved", "model");
+    for one in list {
+        let (number, proved, model) = timed(on, one);
+        let mut name = format!("{one:?}");
+        name.truncate(40);
+        println!("  {name:<42} {number:>8} {proved:>9.0} ns {model:>9.0} ns");
     }
-    let ticket = closed.open(3).expect("a page opens");
-    closed.trusted = true;
-    let mut bits = [0u8; 64];
-    let model_page = best(|| {
-        black_box(closed.scan(black_box(Reader::Ro(ticket)), 0, &mut bits).expect("a scan"));
-    });
-    let model_load = best(|| {
-        black_box(closed.scan(black_box(Reader::Rw(31)), 0, &mut bits).expect("a scan"));
-    });
-    line("scan by a page, 512 rows, 64 entries", by_page, model_page);
-    line("scan by a load with its deps", by_load, model_load);
+}
 
-    let batch = [7u64; 512];
-    let put = best(|| unsafe {
-        nizgulk_put_rows(rows.as_mut_ptr(), rows.len(), black_box(512), black_box(batch).as_ptr(), 512);
-    });
-    let copy = best(|| {
-        rows[512..1024].copy_from_slice(black_box(&batch));
-        black_box(&rows);
-    });
-    line("512 rows copied (beside a plain copy)", put, copy);
+/// Seconds that a program takes for these lines.
+fn session(program: &str, input: &[u8]) -> std::io::Result<f64> {
+    let mut least = f64::MAX;
+    for _ in 0..RUNS {
+        let start = Instant::now();
+        let mut child = Command::new(program).stdin(Stdio::piped()).stdout(Stdio::null()).spawn()?;
+        if let Some(mut stdin) = child.stdin.take() {
+            stdin.write_all(input)?;
+        }
+        child.wait()?;
+        least = least.min(start.elapsed().as_secs_f64());
+    }
+    Ok(least)
+}
 
-    let mut rewrite = |purge: bool| {
-        best(|| unsafe {
-            let plan = if purge { nizgulk_purge_plan(black_box(area), 3) } else { nizgulk_roll_plan(black_box(area), 2) };
-            black_box(nizgulk_rewritten(area, plan));
-            nizgulk_copy_kept(rows.as_mut_ptr(), rows.len(), area, plan, 0, 4096);
-        })
-    };
-    let (purged, rolled) = (rewrite(true), rewrite(false));
-    let mut lot = closed.clone();
-    lot.manager.clock.lse = 3;
-    let (kept_books, kept_rows, kept_entries) = (lot.manager, lot.rows.clone(), lot.entries.clone());
-    let model_purge = best(|| {
-        lot.manager = kept_books;
-        lot.rows[..512].copy_from_slice(&kept_rows[..512]);
-        lot.entries[..64].copy_from_slice(&kept_entries[..64]);
-        black_box(lot.purge(0).expect("a purge"));
-    });
-    line("purge of a full partition", purged, model_purge);
-    line("roll back of a full partition", rolled, f64::NAN);
+fn main() -> std::io::Result<()> {
+    let scan = |reader| Call::Scan { reader, partition: 0, lent: 64 };
+    let append = |count: u64| Call::Append { epoch: 5, partition: 0, rows: (0..count).collect() };
+    let mut empty = Store::new(5);
+    for call in [Call::Begin, Call::Open { epoch: 0 }] {
+        assert_eq!(numbers(&call.run(&mut empty, &mut [])).0, 0);
+    }
+    let both = [
+        Call::New { start: 1 },
+        Call::Begin,
+        append(8),
+        append(512),
+        Call::Clear { epoch: 5, partition: 0 },
+        Call::Commit { epoch: 5 },
+        Call::Rollback { epoch: 5 },
+        Call::Open { epoch: 0 },
+        Call::Close { ticket: 1 },
+        scan(Reader::Rw(5)),
+        scan(Reader::Ro(1)),
+        Call::MoveLse { target: 0 },
+        Call::Purge { partition: 0 },
+    ];
+    calls("an empty store", &empty, &both);
+    let store = full();
+    calls("a full store", &store, &both);
+    calls("a full store, the last load", &store, &[scan(Reader::Rw(35)), Call::Commit { epoch: 35 }]);
+
+    let Some(mixed) = profile("mixed") else { return Ok(()) };
+    let mut made = Lines::new(1, mixed);
+    let mut input = Vec::new();
+    for _ in 0..LINES {
+        input.extend(made.next_line());
+        input.push(b'\n');
+    }
+    let proved = session("target/bin/session", &input)?;
+    let model = session("target/cargo/release/session", &input)?;
+    println!("a session of {LINES} lines: proved {proved:.3} s, model {model:.3} s, {:.2} times as fast", model / proved);
+    Ok(())
 }

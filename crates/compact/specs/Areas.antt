@@ -12,7 +12,7 @@ use Rattle.rules.specs.Store.{noPartition}
 use Rattle.rules.specs.declared.Entry.{Entry}
 use Rattle.rules.specs.declared.Partition.{Partition}
 use Rattle.rules.specs.declared.Partitions.{Partitions}
-use Rattle.rewrite.specs.declared.Area.{Area}
+use Rattle.visible.specs.declared.Area.{Area}
 
 -- the entries of partition q, by its area; the first area where it is none of the nine
 unfoldable pub areaAt : List Entry → Partition → Area

@@ -1,10 +1,10 @@
 // A partition's entries among those of all areas, and its place after a rewrite.
 use lent::Table;
-use rewrite::Area;
 use rewrite::Rewritten;
 use rules::Entry;
 use rules::Partition;
 use rules::Partitions;
+use visible::Area;
 
 ghost use mathlib.Core.Path.{_≡_};
 ghost use mathlib.Core.Bool.{cond};

@@ -6,11 +6,10 @@ ghost use Rattle.rewrite.specs.Copied.{rowsCopied};
 ghost use Rattle.rewrite.specs.Kept.{rewrittenOf};
 ghost use Rattle.exports.specs.Pairs.{begunThenCommitted, purgePlan, rollPlan};
 
-use rewrite::Area;
 use rewrite::Plan;
 use rewrite::Rewritten;
 use rules::Manager;
-use visible::Table;
+use visible::Area;
 use visible::View;
 
 // A transaction begun, and committed at once.
@@ -34,7 +33,7 @@ pub extern "C" fn nizgulk_put_rows(rows: &mut [u64], at: usize, batch: &[u64])
 }
 
 #[no_mangle]
-pub extern "C" fn nizgulk_scan(v: View, t: Table, rows: usize, bitmap: &mut [u8]) -> usize
+pub extern "C" fn nizgulk_scan(v: View, t: Area, rows: usize, bitmap: &mut [u8]) -> usize
     ensures answer { λ r. ⌜ r ≡ scanned v t rows (now (bitmap .entry)) .ones ⌝ }
     ensures words { λ _. ⌜ now (bitmap .exit) ≡ bitmapScanned v t rows (now (bitmap .entry)) ⌝ }
 {

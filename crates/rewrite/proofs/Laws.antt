@@ -1,7 +1,5 @@
-pub mod Places
 pub mod Area
 pub mod Tests
-pub mod Top
 pub mod Plan
 pub mod Ends
 pub mod Back

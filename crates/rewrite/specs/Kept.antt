@@ -12,8 +12,8 @@ use Rattle.rules.specs.Limits.{rowsMax, entriesMax}
 use Rattle.rules.specs.Span.{Span, isDelete, entriesOf, wordsOf}
 use Rattle.rules.specs.Rewrite.{joined}
 use Rattle.rules.specs.declared.Entry.{Entry}
-use Rattle.rewrite.specs.Bare.{entriesIn, noEntry, bare}
-use Rattle.rewrite.specs.declared.Area.{Area}
+use Rattle.visible.specs.Bare.{entriesIn, noEntry, bare}
+use Rattle.visible.specs.declared.Area.{Area}
 use Rattle.rewrite.specs.declared.Plan.{Plan}
 use Rattle.rewrite.specs.declared.Rewritten.{Rewritten}
 

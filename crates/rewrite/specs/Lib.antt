@@ -1,4 +1,3 @@
-pub mod Bare
 pub mod Plan
 pub mod Kept
 pub mod Copied

@@ -1,17 +1,11 @@
 -- What the passes of a rewrite hand on: cited by the helpers' contracts, by no public one.
--- In order: asTop; the last kept entry after one more. Laws: proofs/Laws/Top.antt, proofs/Laws/Keep.antt.
+-- The last kept entry after one more. Laws: proofs/Laws/Keep.antt.
 -- Assumes nothing.
 use mathlib.Core.Bool.{Bool, not, _&&_, cond}
 use Prim.Native.Nat.{ℕ, _+_, _-_}
 use lib.Dec.{eqb}
 use Rattle.rules.specs.declared.Entry.{Entry}
-use Rattle.rules.proofs.Laws.TopDelete.{Top as Greatest}
-use Rattle.rewrite.specs.declared.delete.Top.{Top}
 use Rattle.rewrite.specs.declared.keep.Last.{Last}
-
--- the greatest applied delete as rules has it
-abbrev pub asTop : Top → Greatest
-asTop t = record { epoch = t .epoch; at = t .at }
 
 -- ---- the last kept entry x, after the entry e of new epoch p
 

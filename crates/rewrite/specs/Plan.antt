@@ -11,8 +11,8 @@ use Rattle.rules.specs.Limits.{entriesMax}
 use Rattle.rules.specs.Span.{Span, isDelete}
 use Rattle.rules.specs.Sees.{upTo}
 use Rattle.rules.specs.Hides.{hidden}
-use Rattle.rewrite.specs.Bare.{entriesIn, bare}
-use Rattle.rewrite.specs.declared.Area.{Area}
+use Rattle.visible.specs.Bare.{entriesIn, bare}
+use Rattle.visible.specs.declared.Area.{Area}
 use Rattle.rewrite.specs.declared.Plan.{Plan}
 
 -- the entries in use as spans

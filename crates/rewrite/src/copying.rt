@@ -1,11 +1,11 @@
 // The kept rows, copied inside the lent rows from the area of a partition to another. 01 "Lots", Roll back,
 // Purge.
-use crate::Area;
 use crate::ENTRIES_MAX;
 use crate::Plan;
 use crate::ROWS_MAX;
 use crate::ends::ends_fit;
-use crate::places::in_use;
+use visible::Area;
+use visible::places::in_use;
 
 ghost use mathlib.Core.Path.{_≡_};
 ghost use mathlib.Core.Bool.{true, cond};

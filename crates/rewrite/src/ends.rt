@@ -1,6 +1,6 @@
 // Whether the ends of entries never fall and lie within the rows of an area. 01 *sound*.
-use crate::Area;
 use crate::ROWS_MAX;
+use visible::Area;
 
 ghost use mathlib.Core.Path.{_≡_};
 ghost use Prim.Native.Nat.{_≤_};

@@ -1,11 +1,11 @@
 // The entries that a plan keeps, one after the other. 01 "Lots", Roll back, Purge.
-use rules::Entry;
-use crate::Area;
 use crate::ENTRIES_MAX;
 use crate::Plan;
 use crate::Rewritten;
 use crate::ends::ends_fit;
-use crate::places::in_use;
+use rules::Entry;
+use visible::Area;
+use visible::places::in_use;
 
 ghost use mathlib.Core.Path.{_≡_};
 ghost use mathlib.Core.Bool.{true};

@@ -1,26 +1,17 @@
 // Roll back and purge over the entries of one partition, and the rows in force after them. 01 "Lots", Roll
 // back, Purge; 004 III-C 4, 5.
-use rules::Entry;
+use visible::Area;
 
 pub mod copying;
-mod delete;
 mod ends;
 pub mod force;
 pub mod keep;
-mod places;
 pub mod plans;
 pub mod tests;
 
 // The rows and the entries that an area has room for: rules' rowsMax and entriesMax.
 const ROWS_MAX: usize = 512;
 const ENTRIES_MAX: usize = 64;
-
-// The entries of one partition (01: lot), those in use first.
-#[repr(C)]
-pub struct Area {
-    pub at: [Entry; 64],
-    pub count: usize,
-}
 
 // For the entry at each index: 0 where it goes, else its new epoch.
 #[repr(C)]

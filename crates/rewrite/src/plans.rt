@@ -1,18 +1,19 @@
 // What becomes of each entry in a roll back and in a purge. 01 "Lots", Roll back, Purge; 004 III-C 4, 5.
-use rules::Entry;
-use crate::Area;
 use crate::ENTRIES_MAX;
 use crate::Plan;
-use crate::delete::Top;
-use crate::delete::find_top;
-use crate::delete::hides;
-use crate::places::in_use;
+use rules::Entry;
+use visible::Area;
+use visible::delete::Top;
+use visible::delete::find_top;
+use visible::delete::hides;
+use visible::page;
+use visible::places::in_use;
 
 ghost use mathlib.Core.Path.{_≡_};
 ghost use Rattle.rules.proofs.Laws.TopDelete.{covers};
-ghost use Rattle.rewrite.specs.Bare.{bareSpan};
+ghost use Rattle.visible.specs.Bare.{bareSpan};
 ghost use Rattle.rewrite.specs.Plan.{spansIn, planOf, rollEpoch, rollEpochs, purgeEpoch, purgeEpochs};
-ghost use Rattle.rewrite.specs.Passes.{asTop};
+ghost use Rattle.visible.specs.Passes.{asTop};
 
 fn roll_epoch(e: Entry, i: u64) -> u64
     ensures { λ r. ⌜ r ≡ rollEpoch i (bareSpan 0 e) ⌝ }
@@ -63,7 +64,8 @@ pub fn purge_plan(a: Area, l: u64) -> Plan
     ensures { λ r. ⌜ r ≡ planOf (purgeEpochs l (spansIn a) (spansIn a)) ⌝ }
 {
     let n = in_use(a.count, ENTRIES_MAX);
-    let top = find_top(a, n, l);
+    let v = page(l);
+    let top = find_top(v, a, n);
     let mut plan = [0u64; ENTRIES_MAX];
     let mut k = 0;
     while k < n {

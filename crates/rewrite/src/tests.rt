@@ -1,8 +1,8 @@
 // Whether a rewrite has anything to do. 01 "Lots", Roll back, Purge.
-use rules::Entry;
-use crate::Area;
 use crate::ENTRIES_MAX;
-use crate::places::in_use;
+use rules::Entry;
+use visible::Area;
+use visible::places::in_use;
 
 ghost use mathlib.Core.Path.{_≡_};
 ghost use mathlib.Core.Bool.{not, _&&_};

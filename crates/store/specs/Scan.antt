@@ -1,16 +1,16 @@
 -- What a scan decides by value, and what its public call leaves. 01 "Who sees a row".
--- In order: Showed, a refusal, the entries of a partition, a scan of them, the two readers, the bytes written.
+-- In order: Showed, a refusal, a scan of a partition, the two readers, the bytes written.
 -- Laws: proofs/Laws/Scan.antt.
 -- Assumes nothing.
 use mathlib.Core.Path.{_≡_}
 use mathlib.Core.Bool.{Bool, not, _&&_, cond}
 use mathlib.Core.List.{List, _++_}
-use Prim.Native.Nat.{ℕ, _*_}
+use Prim.Native.Nat.{ℕ}
 use lib.ListN.{length, take, drop, replicate}
 use lib.Dec.{ltb, leb}
-use Rattle.lists.specs.Lists.{part, firstOf}
-use Rattle.rules.specs.Limits.{partitionsMax, areasMax, entriesMax}
-use Rattle.rules.specs.Manager.{opens, noRw, noDeps, writersOf, hasOpen, hasReader, epochAt}
+use Rattle.lists.specs.Lists.{firstOf}
+use Rattle.rules.specs.Limits.{partitionsMax}
+use Rattle.rules.specs.Manager.{opens, noRw, writersOf, hasOpen, hasReader, epochAt}
 use Rattle.rules.specs.Bitmap.{bytesFor}
 use Rattle.rules.specs.Store.{Store}
 use Rattle.rules.specs.Step.{Outcome}
@@ -23,9 +23,10 @@ use Rattle.rules.specs.declared.Manager.{Manager}
 use Rattle.rules.specs.declared.Partition.{Partition}
 use Rattle.rules.specs.declared.State.{State}
 use Rattle.lent.specs.declared.Table.{Table}
-use Rattle.visible.specs.declared.Table.{Table as Entries}
 use Rattle.visible.specs.declared.View.{View}
+use Rattle.visible.specs.View.{pageView}
 use Rattle.visible.specs.Scan.{scanned, bitmapScanned}
+use Rattle.compact.specs.Areas.{areaAt}
 use Rattle.store.specs.Kept.{soundOf}
 use Rattle.store.specs.Write.{partitionOf}
 use Rattle.store.specs.declared.scan.Look.{Look}
@@ -41,24 +42,19 @@ noBits = replicate 64 0
 abbrev pub refusedLook : Refusal → Look
 refusedLook why = record { answer = Refused why; bits = noBits; count = 0 }
 
--- the entries of partition q, by its area; the first area where it is none of the nine
-unfoldable pub tableAt : List Entry → Partition → Entries
-tableAt es q = record {
-  at = part (cond (ltb (q .area) areasMax) (entriesMax * q .area) 0) entriesMax es; count = q .entries }
-
 -- the reader of view v, with k bytes lent
 unfoldable pub lookAt : List Entry → Partition → View → ℕ → Look
 lookAt es q v k =
     cond (ltb k (bytesFor (q .rows))) (refusedLook ShortBitmap)
     (record {
-      answer = Scanned (q .rows) (scanned v (tableAt es q) (q .rows) noBits .ones);
-      bits = bitmapScanned v (tableAt es q) (q .rows) noBits; count = bytesFor (q .rows) })
+      answer = Scanned (q .rows) (scanned v (areaAt es q) (q .rows) noBits .ones);
+      bits = bitmapScanned v (areaAt es q) (q .rows) noBits; count = bytesFor (q .rows) })
 
 abbrev pub rwView : ℕ → Manager → View
 rwView i m = record { epoch = i; rw = 1; deps = firstOf (opens i) noRw (writersOf m) .deps }
 
 abbrev pub roView : ℕ → Manager → View
-roView i m = record { epoch = epochAt i m; rw = 0; deps = noDeps }
+roView i m = pageView (epochAt i m)
 
 -- 01's order: 5, 1, 2, 3; isOpen says whether the reader is
 abbrev pub lookBy : Bool → View → State → Table → ℕ → ℕ → ℕ → ℕ → Look

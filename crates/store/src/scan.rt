@@ -1,21 +1,12 @@
 // Scans (01 "Who sees a row"), decided by value: what is refused, and the bytes that a call writes.
 ghost use mathlib.Core.Path.{_≡_};
-ghost use mathlib.Core.Bool.{cond};
-ghost use Prim.Native.Nat.{_*_};
-ghost use lib.Dec.{ltb};
-ghost use Rattle.rules.specs.Limits.{areasMax, entriesMax};
-ghost use Rattle.store.specs.Scan.{refusedLook, tableAt, lookAt, rwLook, roLook, copied};
+ghost use Rattle.store.specs.Scan.{refusedLook, lookAt, rwLook, roLook, copied};
 
-use crate::limits::AREAS;
 use crate::limits::BITMAP;
-use crate::limits::DEPS;
-use crate::limits::ENTRIES;
 use crate::limits::PARTITIONS;
 use crate::sound;
 use lent::Table;
 use rules::Answer;
-use rules::Deps;
-use rules::Entry;
 use rules::Partition;
 use rules::Refusal;
 use rules::State;
@@ -39,34 +30,6 @@ fn refused(why: Refusal) -> Look
     }
 }
 
-// The index of an area's first entry; of the first area's where the area is none of the nine.
-fn base_of(area: usize) -> usize
-    ensures { λ r. ⌜ r ≡ cond (ltb area areasMax) (entriesMax * area) 0 ⌝ }
-{
-    if area < AREAS {
-        return ENTRIES * area;
-    }
-    0
-}
-
-// The entries of partition q.
-fn entries_of(t: Table, q: Partition) -> visible::Table
-    ensures { λ r. ⌜ r ≡ tableAt (t .at) q ⌝ }
-{
-    let base = base_of(q.area);
-    let mut at = [Entry {
-        epoch: 0,
-        end: 0,
-        mark: 0,
-    }; ENTRIES];
-    let mut i: usize = 0;
-    while i < ENTRIES {
-        at[i] = t.at[base + i];
-        i += 1;
-    }
-    visible::Table { at: at, count: q.entries }
-}
-
 // The reader of view v scans partition q, and k bytes are lent.
 fn scan_partition(t: Table, q: Partition, v: View, k: usize) -> Look
     ensures { λ r. ⌜ r ≡ lookAt (t .at) q v k ⌝ }
@@ -76,7 +39,7 @@ fn scan_partition(t: Table, q: Partition, v: View, k: usize) -> Look
     if k < count {
         return refused(Refusal::ShortBitmap);
     }
-    let es = entries_of(t, q);
+    let es = compact::areas::area_of(t, q);
     let mut bits = [0u8; BITMAP];
     let done = visible::scan(v, es, rows, &mut bits);
     let answer = Answer::Scanned { rows: rows, ones: done.ones };
@@ -120,8 +83,7 @@ pub fn ro_core(state: State, t: Table, n: usize, m: usize, k: usize, i: u64, p: 
         return refused(Refusal::NotOpen);
     }
     let epoch = txn_find::epoch_at(manager, i);
-    let deps = Deps { at: [0; DEPS], count: 0 };
-    let v = View { epoch: epoch, rw: 0, deps: deps };
+    let v = visible::page(epoch);
     let partitions = state.partitions;
     let place = p as usize;
     let q = partitions.at[place];

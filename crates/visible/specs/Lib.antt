@@ -1,4 +1,5 @@
 pub mod View
+pub mod Bare
 pub mod Flags
 pub mod Passes
 pub mod Scan

@@ -10,7 +10,7 @@ use Rattle.rules.proofs.Laws.TopDelete.{Top as Greatest, flagsBy}
 use Rattle.visible.specs.declared.View.{View}
 use Rattle.visible.specs.declared.delete.Top.{Top}
 use Rattle.visible.specs.View.{seesView}
-use Rattle.visible.specs.Flags.{bare}
+use Rattle.visible.specs.Bare.{bare}
 
 -- the greatest applied delete as rules has it
 abbrev pub asTop : Top → Greatest

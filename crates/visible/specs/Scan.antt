@@ -12,24 +12,25 @@ use Rattle.rules.specs.Limits.{rowsMax}
 use Rattle.rules.specs.Bitmap.{bytesFor, bitmapAfter}
 use Rattle.rules.specs.WellFormed.{endsOk}
 use Rattle.visible.specs.declared.View.{View}
-use Rattle.visible.specs.declared.Table.{Table}
+use Rattle.visible.specs.declared.Area.{Area}
 use Rattle.visible.specs.declared.Scanned.{Scanned}
 use Rattle.visible.specs.View.{seesView, appliesView}
-use Rattle.visible.specs.Flags.{entriesIn, flagsOf}
+use Rattle.visible.specs.Bare.{entriesIn}
+use Rattle.visible.specs.Flags.{flagsOf}
 
 -- the ends are those of so many rows, which a partition can have, and the lent bytes are enough
-unfoldable pub scanOk : Table → ℕ → List ℕ → Bool
+unfoldable pub scanOk : Area → ℕ → List ℕ → Bool
 scanOk t rows lent = endsOk rows 0 (entriesIn t) && (leb rows rowsMax && leb (bytesFor rows) (length lent))
 
 -- the flags of a reader
 abbrev pub viewFlags : View → List Entry → List Bool
 viewFlags v es = flagsOf (seesView v) (appliesView v) es
 
-abbrev pub tableFlags : View → Table → List Bool
+abbrev pub tableFlags : View → Area → List Bool
 tableFlags v t = viewFlags v (entriesIn t)
 
-unfoldable pub scanned : View → Table → ℕ → List ℕ → Scanned
+unfoldable pub scanned : View → Area → ℕ → List ℕ → Scanned
 scanned v t rows lent = record { ones = cond (scanOk t rows lent) (ones (tableFlags v t)) 0 }
 
-unfoldable pub bitmapScanned : View → Table → ℕ → List ℕ → List ℕ
+unfoldable pub bitmapScanned : View → Area → ℕ → List ℕ → List ℕ
 bitmapScanned v t rows lent = cond (scanOk t rows lent) (bitmapAfter (tableFlags v t) lent) lent

@@ -1,16 +1,18 @@
 // The greatest delete (01: clearing) that a reader applies: it alone says which rows are hidden.
 // 01 "Who sees a row".
-use crate::Table;
+use crate::Area;
+use crate::ENTRIES_MAX;
 use crate::View;
+use crate::places::in_use;
 use crate::sees::applies;
 use rules::Entry;
 ghost use mathlib.Core.Path.{_≡_};
-ghost use Prim.Native.Nat.{_≤_, _<_};
+ghost use Prim.Native.Nat.{_<_};
 ghost use lib.ListN.{take};
 ghost use Rattle.rules.specs.Limits.{entriesMax};
 ghost use Rattle.rules.proofs.Laws.TopDelete.{topDelete, topStep, covers};
 ghost use Rattle.visible.specs.View.{appliesView};
-ghost use Rattle.visible.specs.Flags.{bareSpan, bare};
+ghost use Rattle.visible.specs.Bare.{bareSpan, bare};
 ghost use Rattle.visible.specs.Passes.{asTop};
 
 // Its epoch, and one more than the index of its last entry; both 0 with none.
@@ -39,14 +41,14 @@ fn top_step(v: View, top: Top, e: Entry, i: usize) -> Top
     }
 }
 
-// Of the first n entries.
-pub(crate) fn find_top(v: View, t: Table, n: usize) -> Top
-    requires { ⌜ n ≤ entriesMax ⌝ }
+// Of the first n entries, or of all where there are fewer.
+pub fn find_top(v: View, t: Area, n: usize) -> Top
     ensures { λ r. ⌜ asTop r ≡ topDelete (appliesView v) (bare 0 (take n (t .at))) ⌝ }
 {
+    let m = in_use(n, ENTRIES_MAX);
     let mut top = Top { epoch: 0, at: 0 };
     let mut i = 0;
-    while i < n {
+    while i < m {
         let e = t.at[i];
         top = top_step(v, top, e, i);
         i += 1;
@@ -56,7 +58,7 @@ pub(crate) fn find_top(v: View, t: Table, n: usize) -> Top
 
 // Whether it hides rows of epoch j in the entry at index i: those of a smaller epoch wherever they stand, and
 // those of its own epoch where they stand before it.
-pub(crate) fn hides(top: Top, i: usize, j: u64) -> bool
+pub fn hides(top: Top, i: usize, j: u64) -> bool
     ensures { λ r. ⌜ r ≡ covers (asTop top) i j ⌝ }
 {
     if top.at <= i {

@@ -1,6 +1,6 @@
 // Whether the ends of entries are those of so many rows. 01 *sound*: ends never fall, and rise at a rows entry;
 // the last is the row count.
-use crate::Table;
+use crate::Area;
 use rules::Entry;
 ghost use mathlib.Core.Path.{_≡_};
 ghost use mathlib.Core.Bool.{_&&_, _||_};
@@ -24,7 +24,7 @@ fn end_ok(from: usize, e: Entry) -> bool
 }
 
 // Of the first n entries.
-pub(crate) fn ends_ok(t: Table, n: usize, rows: usize) -> bool
+pub(crate) fn ends_ok(t: Area, n: usize, rows: usize) -> bool
     requires { ⌜ n ≤ entriesMax ⌝ }
     ensures { λ r. ⌜ r ≡ endsOk rows 0 (take n (t .at)) ⌝ }
 {

@@ -6,25 +6,28 @@ use crate::write::write;
 use rules::Deps;
 use rules::Entry;
 
-mod delete;
+pub mod delete;
 mod ends;
 pub mod pack;
-mod places;
+pub mod places;
 mod rows;
 pub mod sees;
 mod write;
 
 ghost use mathlib.Core.Path.{_≡_};
+ghost use Rattle.visible.specs.View.{pageView};
 ghost use Rattle.visible.specs.Scan.{scanned, bitmapScanned};
 
 // The rows and the entries that a partition has room for: rules' rowsMax and entriesMax.
 const ROWS_MAX: usize = 512;
-
 const ENTRIES_MAX: usize = 64;
+
+// rules' depsMax
+const DEPS_MAX: usize = 31;
 
 // The entries of one partition (01: lot), those in use first.
 #[repr(C)]
-pub struct Table {
+pub struct Area {
     pub at: [Entry; 64],
     pub count: usize,
 }
@@ -38,6 +41,21 @@ pub struct View {
     pub deps: Deps,
 }
 
+// A read-only transaction at this epoch.
+pub fn page(epoch: u64) -> View
+    ensures { λ r. ⌜ r ≡ pageView epoch ⌝ }
+{
+    let deps = Deps {
+        at: [0; DEPS_MAX],
+        count: 0,
+    };
+    View {
+        epoch: epoch,
+        rw: 0,
+        deps: deps,
+    }
+}
+
 // How many rows the reader is shown.
 #[repr(C)]
 pub struct Scanned {
@@ -46,7 +64,7 @@ pub struct Scanned {
 
 // A bit a row: whether the reader is shown it. Where the ends are not those of so many rows, there are more
 // rows than a partition has, or the bitmap is shorter than they need, nothing is written and the count is 0.
-pub fn scan(v: View, t: Table, rows: usize, bitmap: &mut [u8]) -> Scanned
+pub fn scan(v: View, t: Area, rows: usize, bitmap: &mut [u8]) -> Scanned
     ensures answer { λ r. ⌜ r ≡ scanned v t rows (now (bitmap .entry)) ⌝ }
     ensures words { λ _. ⌜ now (bitmap .exit) ≡ bitmapScanned v t rows (now (bitmap .entry)) ⌝ }
 {

@@ -3,7 +3,7 @@ ghost use mathlib.Core.Path.{_≡_};
 ghost use mathlib.Core.Bool.{cond};
 ghost use lib.Dec.{ltb};
 
-pub(crate) fn in_use(count: usize, places: usize) -> usize
+pub fn in_use(count: usize, places: usize) -> usize
     ensures { λ r. ⌜ r ≡ cond (ltb count places) count places ⌝ }
 {
     if count < places {

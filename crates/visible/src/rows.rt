@@ -1,5 +1,5 @@
 // Of each row in order, whether a reader is shown it. 01 "Who sees a row".
-use crate::Table;
+use crate::Area;
 use crate::View;
 use crate::delete::Top;
 use crate::delete::hides;
@@ -44,7 +44,7 @@ fn fill(shown: &mut [bool], from: usize, to: usize, b: bool) -> usize
 }
 
 // The flags of the rows of the first n entries, which are as many as shown is long; answers how many are true.
-fn show(v: View, t: Table, n: usize, top: Top, shown: &mut [bool]) -> usize
+fn show(v: View, t: Area, n: usize, top: Top, shown: &mut [bool]) -> usize
     requires { ⌜ (n ≤ entriesMax) × (endsOk (length (now shown)) 0 (take n (t .at)) ≡ true) ⌝ }
     ensures { λ r. ⌜ (r ≡ ones (flagsUnder v top (take n (t .at))))
         × (now (shown .exit) ≡ flagsUnder v top (take n (t .at))) ⌝ }
@@ -65,7 +65,7 @@ fn show(v: View, t: Table, n: usize, top: Top, shown: &mut [bool]) -> usize
 // The same at the front of flags that may be more.
 pub(crate) fn show_front(
     v: View,
-    t: Table,
+    t: Area,
     n: usize,
     rows: usize,
     top: Top,

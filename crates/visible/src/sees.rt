@@ -1,4 +1,5 @@
 // Which epochs a reader sees, and which deletes (01: clearings) it applies. 01 "Who sees a row".
+use crate::DEPS_MAX;
 use crate::View;
 use crate::places::in_use;
 use rules::Deps;
@@ -6,9 +7,6 @@ ghost use mathlib.Core.Path.{_≡_};
 ghost use lib.ListN.{take};
 ghost use Rattle.lists.specs.Lists.{elem};
 ghost use Rattle.visible.specs.View.{seesView, appliesView};
-
-// rules' depsMax
-const DEPS_MAX: usize = 31;
 
 // Whether j is among the deps in use.
 fn in_deps(d: Deps, j: u64) -> bool

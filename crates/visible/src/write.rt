@@ -1,6 +1,6 @@
 // A scan whose input is right: the greatest delete, a flag a row, then a bit a row. 01 "Who sees a row".
 use crate::ROWS_MAX;
-use crate::Table;
+use crate::Area;
 use crate::View;
 use crate::delete::find_top;
 use crate::pack::bytes_for;
@@ -17,7 +17,7 @@ ghost use Rattle.rules.specs.WellFormed.{endsOk};
 ghost use Rattle.visible.specs.Scan.{viewFlags};
 
 // The first n entries; answers how many rows are shown.
-pub(crate) fn write(v: View, t: Table, n: usize, rows: usize, bitmap: &mut [u8]) -> usize
+pub(crate) fn write(v: View, t: Area, n: usize, rows: usize, bitmap: &mut [u8]) -> usize
     requires { ⌜ (n ≤ entriesMax) × (rows ≤ rowsMax) × (endsOk rows 0 (take n (t .at)) ≡ true)
         × (bytesFor rows ≤ length (now bitmap)) ⌝ }
     ensures { λ r. ⌜ (r ≡ ones (viewFlags v (take n (t .at))))

@@ -11,9 +11,9 @@ use lib.Dec.{ltb}
 use lib.ListN.{length, take, drop, getD, drop-of-length-le}
 use lib.Seq.{length-take-le, getD-take}
 use Rattle.rules.specs.Limits.{entriesMax}
-use Rattle.rewrite.specs.Bare.{entriesIn, noEntry}
-use Rattle.rewrite.specs.declared.Area.{Area}
-use Rattle.rewrite.proofs.Laws.Places.{in-use-le, take-in-use, drop-used}
+use Rattle.visible.specs.Bare.{entriesIn, noEntry}
+use Rattle.visible.specs.declared.Area.{Area}
+use Rattle.visible.proofs.Laws.Places.{in-use-le, take-in-use, drop-used}
 
 pub record Uses (a : Area) (n : ℕ) : Type 0 where
   pub long : length (a .at) ≡ entriesMax

@@ -21,7 +21,7 @@ use Rattle.rules.specs.WellFormed.{endsOk}
 use Rattle.rules.specs.declared.Entry.{Entry}
 use Rattle.rules.proofs.Laws.Span.{end-ok, endsOk-le}
 use Rattle.rules.proofs.Laws.Rewrite.{joins}
-use Rattle.rewrite.specs.Bare.{bare}
+use Rattle.visible.specs.Bare.{bare}
 use Rattle.rewrite.specs.Plan.{rollEpochs, purgeEpochs}
 use Rattle.rewrite.specs.Kept.{kept, asRewritten}
 

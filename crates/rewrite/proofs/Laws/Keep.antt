@@ -18,7 +18,7 @@ use Rattle.rules.specs.Span.{Span, isDelete, entriesOf, wordsOf}
 use Rattle.rules.specs.declared.Entry.{Entry}
 use Rattle.rules.proofs.Laws.Span.{wordsOf-append}
 use Rattle.rules.proofs.Laws.Rewrite.{joins}
-use Rattle.rewrite.specs.Bare.{noEntry, bareSpan}
+use Rattle.visible.specs.Bare.{noEntry, bareSpan}
 use Rattle.rewrite.specs.Kept.{renewed}
 use Rattle.rewrite.specs.Passes.{joinsLast, pushed, grown, stepped}
 use Rattle.rewrite.specs.declared.keep.Last.{Last}

@@ -16,8 +16,8 @@ use Rattle.rules.specs.Sees.{upTo}
 use Rattle.rules.specs.Hides.{hidden}
 use Rattle.rules.specs.declared.Entry.{Entry}
 use Rattle.rules.proofs.Laws.TopDelete.{topDelete, covers, hidden-top}
-use Rattle.rewrite.specs.declared.Area.{Area}
-use Rattle.rewrite.specs.Bare.{entriesIn, bareSpan, bare, noEntry}
+use Rattle.visible.specs.declared.Area.{Area}
+use Rattle.visible.specs.Bare.{entriesIn, bareSpan, bare, noEntry}
 use Rattle.rewrite.proofs.Laws.Area.{Uses, length-entries, entry-is}
 use Rattle.rewrite.specs.Plan.{spansIn, rollEpoch, rollEpochs, purgeEpoch, purgeEpochs}
 

@@ -9,7 +9,7 @@ use lib.Dec.{leb, eqb}
 use borrow.Author.Tests.{eq-eqb, ne-eqb}
 use Rattle.rules.specs.declared.Entry.{Entry}
 use Rattle.rules.specs.Rewrite.{hasEpoch, skips}
-use Rattle.rewrite.specs.Bare.{bare}
+use Rattle.visible.specs.Bare.{bare}
 
 module _ (i m : ℕ) (e : Entry) (es : List Entry) where
   pub has-found : e .epoch ≡ i → hasEpoch i (bare m (e ∷ es)) ≡ true

@@ -1,5 +1,5 @@
 -- What a scan decides by value is what step leaves. Definitions: specs/Scan.antt.
--- In order: a loop that copies, the bytes copied, a refusal, the bytes written, a partition's entries, a
+-- In order: the bytes copied, a refusal, the bytes written, a partition's entries, a
 -- scan, the two readers.
 -- Assumes nothing.
 use mathlib.Core.Path.{_≡_, refl, sym, ap, _∙_}
@@ -38,12 +38,13 @@ use Rattle.lent.specs.Entries.{none, tableOf}
 use Rattle.lent.proofs.Lists.{filled-all}
 use Rattle.visible.specs.declared.View.{View}
 use Rattle.visible.specs.View.{seesView, appliesView}
-use Rattle.visible.specs.Flags.{entriesIn}
+use Rattle.visible.specs.Bare.{entriesIn}
 use Rattle.visible.specs.Scan.{scanOk, scanned, bitmapScanned}
 use Rattle.visible.proofs.Laws.Scan.{spanFlags, scan-ok, scanned-spans, bitmap-spans}
+use Rattle.compact.specs.Areas.{areaAt}
 use Rattle.store.specs.Kept.{storeOf}
 use Rattle.store.specs.Write.{partitionOf}
-use Rattle.store.specs.Scan.{Showed, noBits, refusedLook, tableAt, lookAt, rwView, roView, lookBy}
+use Rattle.store.specs.Scan.{Showed, noBits, refusedLook, lookAt, rwView, roView, lookBy}
 use Rattle.store.specs.Scan.{rwLook, roLook, copied}
 use Rattle.store.specs.declared.scan.Look.{Look}
 use Rattle.store.proofs.scan.Look as look-type
@@ -51,30 +52,6 @@ use Rattle.store.proofs.Laws.Kept.{sound-is}
 
 pub look-64 : (x : Look) (vs : List Val) → Is (row look-type.the-type) x vs → length (x .bits) ≡ 64
 look-64 x vs g = sym (length-map (x .bits) (λ v. v)) ∙ g .1 .1 .1 .0 .1 .0 .1
-
--- an area of no entries
-unfoldable pub blank : List Entry
-blank = replicate entriesMax none
-
-pub blank-64 : length blank ≡ 64
-unfolding blank
-blank-64 = refl
-
--- one more of xs over ys
-pub put-next : {A : Type 0} (xs ys : List A) (j : ℕ) (d : A) → j < length xs → j < length ys
-    → set (take j xs ++ drop j ys) j (getD xs j d) ≡ take (suc j) xs ++ drop (suc j) ys
-put-next xs ys j d k h =
-    rw (drop-cons ys j d h, take-suc xs j d k, append-assoc (take j xs) (getD xs j d ∷ []) (drop (suc j) ys))
-    (set-at (take j xs) (getD ys j d) (drop (suc j) ys) (getD xs j d) j (length-take-le j xs (omega arith)))
-
--- all of ys are gone
-pub copied-all : {A : Type 0} (xs ys : List A) (n : ℕ) → length ys ≡ n → take n xs ++ drop n ys ≡ take n xs
-copied-all xs ys n l = rw (drop-of-length-le ys {i = n} (omega arith)) (append-nil (take n xs))
-
--- an area's entries are among the 576
-pub base-fits : (area : ℕ) → cond (ltb area areasMax) (entriesMax * area) 0 + 64 ≤ 576
-base-fits area = split (ltb area areasMax)
-  (λ t. let g = ltb-true area areasMax t in rw t (omega arith)) (λ f. rw f (omega arith))
 
 -- ---- the bytes copied, by what the tests say
 
@@ -119,8 +96,8 @@ bytes-fit rows h = omega arith
 
 module _ (s : State) (es : List Entry) (rs : List ℕ) (ok : StoreOk (storeOf s rs es)) (p : ℕ) (h : p < partitionsMax)
     where
-  table-entries : entriesIn (tableAt es (partitionOf p s)) ≡ entriesAt p (storeOf s rs es)
-  unfolding tableAt
+  table-entries : entriesIn (areaAt es (partitionOf p s)) ≡ entriesAt p (storeOf s rs es)
+  unfolding areaAt
   table-entries = let q = partitionOf p s in let part = ok .partition p h in let n = part .entry-count in
       let f = part .spans-ok .entries-fit in
       rw (lt-ltb (q .area) areasMax (ok .areas .inside p h))
@@ -130,9 +107,9 @@ module _ (s : State) (es : List Entry) (rs : List ℕ) (ok : StoreOk (storeOf s 
   entries-facts = let part = ok .partition p h in
       rw (part .entries-are, ← part .row-count) at (entries-ok (s .manager) (spansAt p (storeOf s rs es)) (part .spans-ok))
 
-  scans : scanOk (tableAt es (partitionOf p s)) (partitionOf p s .rows) noBits ≡ true
+  scans : scanOk (areaAt es (partitionOf p s)) (partitionOf p s .rows) noBits ≡ true
   scans = let o = entries-facts in let q = partitionOf p s in
-      scan-ok (tableAt es q) (q .rows) noBits (rw table-entries (o .ends)) (o .rows-fit)
+      scan-ok (areaAt es q) (q .rows) noBits (rw table-entries (o .ends)) (o .rows-fit)
         (bytes-fit (q .rows) (o .rows-fit))
 
   words : length (rowsAt p (storeOf s rs es)) ≡ partitionOf p s .rows
@@ -140,7 +117,7 @@ module _ (s : State) (es : List Entry) (rs : List ℕ) (ok : StoreOk (storeOf s 
 
   module _ (r : Reader) (v : View) (sees : seesView v ≡ seesOf r (s .manager))
       (applies : appliesView v ≡ appliesOf r (s .manager)) where
-    same-flags : spanFlags v (tableAt es (partitionOf p s)) (rowsAt p (storeOf s rs es)) ≡ flagsAt r p (storeOf s rs es)
+    same-flags : spanFlags v (areaAt es (partitionOf p s)) (rowsAt p (storeOf s rs es)) ≡ flagsAt r p (storeOf s rs es)
     unfolding flagsAt spansAt
     same-flags = rw (sees, applies, table-entries)
 
@@ -149,16 +126,16 @@ module _ (s : State) (es : List Entry) (rs : List ℕ) (ok : StoreOk (storeOf s 
     flags-rows = length-flags (seesOf r (s .manager)) (appliesOf r (s .manager)) (spansAt p (storeOf s rs es))
         ∙ sym (ok .partition p h .row-count)
 
-    ones-are : scanned v (tableAt es (partitionOf p s)) (partitionOf p s .rows) noBits .ones
+    ones-are : scanned v (areaAt es (partitionOf p s)) (partitionOf p s .rows) noBits .ones
         ≡ ones (flagsAt r p (storeOf s rs es))
     ones-are = let q = partitionOf p s in
-        ap (λ x. x .ones) (scanned-spans v (tableAt es q) (q .rows) noBits (rowsAt p (storeOf s rs es)) scans words)
+        ap (λ x. x .ones) (scanned-spans v (areaAt es q) (q .rows) noBits (rowsAt p (storeOf s rs es)) scans words)
         ∙ ap ones same-flags
 
-    bits-are : bitmapScanned v (tableAt es (partitionOf p s)) (partitionOf p s .rows) noBits
+    bits-are : bitmapScanned v (areaAt es (partitionOf p s)) (partitionOf p s .rows) noBits
         ≡ bitmapAfter (flagsAt r p (storeOf s rs es)) noBits
     bits-are = let q = partitionOf p s in
-        bitmap-spans v (tableAt es q) (q .rows) noBits (rowsAt p (storeOf s rs es)) scans words
+        bitmap-spans v (areaAt es q) (q .rows) noBits (rowsAt p (storeOf s rs es)) scans words
         ∙ ap (λ f. bitmapAfter f noBits) same-flags
 
     scan-room : (lent : List ℕ)

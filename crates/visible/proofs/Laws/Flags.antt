@@ -17,7 +17,8 @@ use Rattle.rules.specs.WellFormed.{endsOk}
 use Rattle.rules.proofs.Laws.Span.{end-ok, endsOk-le, words-spans}
 use Rattle.rules.proofs.Laws.Hides.{length-flags}
 use Rattle.rules.proofs.Laws.TopDelete.{topDelete, flagsBy, flags-top}
-use Rattle.visible.specs.Flags.{bare, flagsOf}
+use Rattle.visible.specs.Bare.{bare}
+use Rattle.visible.specs.Flags.{flagsOf}
 
 -- ---- flags go by the words' number alone
 

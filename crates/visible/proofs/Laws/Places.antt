@@ -12,11 +12,6 @@ use lib.ListN.{length, take, drop, getD}
 use lib.Seq.{length-take-le, take-all, getD-take, drop-cons}
 use borrow.Author.Tests.{ltb-true, ltb-false}
 use Rattle.lists.proofs.Laws.Bools.{split}
-use Rattle.rules.specs.declared.Entry.{Entry}
-
--- what a read past the end gives
-abbrev pub noEntry : Entry
-noEntry = record { epoch = 0; end = 0; mark = 0 }
 
 pub unmapped : {X Y : Type 0} (f : X → Y) (l : List X) (n : ℕ) → length (map f l) ≡ n → length l ≡ n
 unmapped {X} f l n e = sym (go l) ∙ e

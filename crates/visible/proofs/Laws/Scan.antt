@@ -16,13 +16,13 @@ use Rattle.rules.specs.Hides.{flags}
 use Rattle.rules.specs.Bitmap.{bytesFor, bitmapAfter}
 use Rattle.rules.specs.WellFormed.{endsOk}
 use Rattle.visible.specs.declared.View.{View}
-use Rattle.visible.specs.declared.Table.{Table}
+use Rattle.visible.specs.declared.Area.{Area}
 use Rattle.visible.specs.View.{seesView, appliesView}
-use Rattle.visible.specs.Flags.{entriesIn}
+use Rattle.visible.specs.Bare.{entriesIn}
 use Rattle.visible.proofs.Laws.Flags.{flags-entries}
 use Rattle.visible.specs.Scan.{scanOk, tableFlags, scanned, bitmapScanned}
 
-module _ (t : Table) (rows : ℕ) (lent : List ℕ) where
+module _ (t : Area) (rows : ℕ) (lent : List ℕ) where
   pub wrong-ends : endsOk rows 0 (entriesIn t) ≡ false → scanOk t rows lent ≡ false
   unfolding scanOk
   wrong-ends f = rw f
@@ -55,10 +55,10 @@ module _ (t : Table) (rows : ℕ) (lent : List ℕ) where
 
 -- ---- over a partition's spans, whatever its words
 
-abbrev pub spanFlags : View → Table → List ℕ → List Bool
+abbrev pub spanFlags : View → Area → List ℕ → List Bool
 spanFlags v t ws = flags (seesView v) (appliesView v) (spans 0 (entriesIn t) ws)
 
-module _ (v : View) (t : Table) (rows : ℕ) (lent ws : List ℕ)
+module _ (v : View) (t : Area) (rows : ℕ) (lent ws : List ℕ)
     (ok : scanOk t rows lent ≡ true) (l : length ws ≡ rows) where
   same-flags : tableFlags v t ≡ spanFlags v t ws
   unfolding scanOk

@@ -13,7 +13,7 @@ use borrow.Author.Tests.{ltb-true, ltb-false, eqb-true, eqb-false}
 use Rattle.lists.proofs.Laws.Bools.{split, and-false, and-true, or-false}
 use Rattle.rules.specs.declared.Entry.{Entry}
 use Rattle.rules.proofs.Laws.TopDelete.{Top, topStep, topFrom, covers}
-use Rattle.visible.specs.Flags.{bareSpan, bare}
+use Rattle.visible.specs.Bare.{bareSpan, bare}
 
 leb-or : (j e : ℕ) → leb j e ≡ ltb j e || eqb j e
 leb-or j e = split (ltb j e)

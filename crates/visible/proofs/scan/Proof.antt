@@ -8,7 +8,7 @@ use lib.ListN.{length, take}
 use denote.Ref.{now}
 use Rattle.rules.specs.Bitmap.{bytesFor}
 use Rattle.rules.specs.WellFormed.{endsOk}
-use Rattle.visible.specs.Flags.{entriesIn}
+use Rattle.visible.specs.Bare.{entriesIn}
 use Rattle.visible.proofs.Laws.Places.{unmapped, in-use-le, take-in-use}
 use Rattle.visible.proofs.Laws.Scan.{wrong-ends, many-rows, short-bitmap, scan-ok, refused, written}
 use borrow.Author.Needs.{needs}

@@ -10,8 +10,8 @@ use lib.ListN.{length, take, drop, getD, drop-of-length-le, length-take}
 use lib.Seq.{drop-cons}
 use Rattle.rules.specs.Limits.{entriesMax}
 use Rattle.rules.specs.declared.Entry.{Entry}
-use Rattle.rewrite.specs.Bare.{noEntry}
-use Rattle.rewrite.proofs.Laws.Places.{unmapped, drop-used}
+use Rattle.visible.specs.Bare.{noEntry}
+use Rattle.visible.proofs.Laws.Places.{unmapped, drop-used}
 use Rattle.rewrite.proofs.Laws.Copied.{AreasApart, areas-apart, Copied, copied-none, begins}
 use Rattle.rewrite.proofs.Laws.Copied.{RunOk, run-ok, copied-next, copied-all}
 use borrow.Author.Needs.{needs}

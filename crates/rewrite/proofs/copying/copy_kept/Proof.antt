@@ -3,10 +3,10 @@
 use mathlib.Core.Path.{sym, _∙_}
 use borrow.Author.Tests.{not-true, not-false}
 use Rattle.lists.proofs.Laws.Bools.{and-false}
-use Rattle.rewrite.specs.Bare.{entriesIn}
+use Rattle.visible.specs.Bare.{entriesIn}
 use Rattle.rewrite.specs.Kept.{endsFit}
 use Rattle.rewrite.specs.Copied.{copyOk, rowsCopied}
-use Rattle.rewrite.proofs.Laws.Places.{unmapped}
+use Rattle.visible.proofs.Laws.Places.{unmapped}
 use Rattle.rewrite.proofs.Laws.Area.{Uses, uses}
 use borrow.Author.Needs.{needs}
 use Rattle.rewrite.proofs.copying.copy_kept.Statement.{statement}

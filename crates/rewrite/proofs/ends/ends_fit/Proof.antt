@@ -8,9 +8,9 @@ use native.Mathlib.Numerals.{add-one}
 use native.Mathlib.Omega.{arith}
 use lib.ListN.{length, take, drop, getD, drop-of-length-le, length-take}
 use Rattle.rules.specs.Limits.{entriesMax}
-use Rattle.rewrite.specs.Bare.{noEntry}
+use Rattle.visible.specs.Bare.{noEntry}
 use Rattle.rewrite.specs.Kept.{endsFit}
-use Rattle.rewrite.proofs.Laws.Places.{unmapped, drop-used}
+use Rattle.visible.proofs.Laws.Places.{unmapped, drop-used}
 use Rattle.rewrite.proofs.Laws.Ends.{ends-fall, ends-next}
 use borrow.Author.Needs.{needs}
 use Rattle.rewrite.proofs.ends.ends_fit.Statement.{statement}

@@ -3,7 +3,7 @@
 use mathlib.Core.Path.{refl, sym, _∙_}
 use borrow.Author.Tests.{not-true, not-false}
 use Rattle.rewrite.specs.Kept.{endsFit, rewrittenOf}
-use Rattle.rewrite.proofs.Laws.Places.{unmapped}
+use Rattle.visible.proofs.Laws.Places.{unmapped}
 use Rattle.rewrite.proofs.Laws.Area.{Uses, uses}
 use borrow.Author.Needs.{needs}
 use Rattle.rewrite.proofs.keep.rewritten.Statement.{statement}

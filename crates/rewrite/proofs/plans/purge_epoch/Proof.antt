@@ -3,7 +3,7 @@
 use mathlib.Core.Path.{sym, _∙_}
 use native.Mathlib.Omega.{arith}
 use Rattle.rules.proofs.Laws.TopDelete.{covers}
-use Rattle.rewrite.specs.Passes.{asTop}
+use Rattle.visible.specs.Passes.{asTop}
 use Rattle.rewrite.proofs.Laws.Plan.{delete-goes, delete-stays, rows-go, rows-stay}
 use borrow.Author.Needs.{needs}
 use Rattle.rewrite.proofs.plans.purge_epoch.Statement.{statement}

@@ -9,10 +9,11 @@ use Rattle.rules.specs.Sees.{upTo}
 use Rattle.rules.proofs.Laws.TopDelete.{Top, topDelete, covers}
 use Rattle.lists.specs.Lists.{pad}
 use Rattle.rules.specs.Limits.{entriesMax}
-use Rattle.rewrite.specs.Bare.{entriesIn, bareSpan, noEntry}
-use Rattle.rewrite.specs.Passes.{asTop}
+use Rattle.visible.specs.Bare.{entriesIn, bareSpan, noEntry}
+use Rattle.visible.specs.View.{appliesView}
+use Rattle.visible.specs.Passes.{asTop}
 use Rattle.rewrite.specs.Plan.{spansIn, purgeEpoch, purgeEpochs}
-use Rattle.rewrite.proofs.Laws.Places.{unmapped, in-use-le}
+use Rattle.visible.proofs.Laws.Places.{unmapped}
 use Rattle.rewrite.proofs.Laws.Area.{Uses, uses}
 use Rattle.rewrite.proofs.Laws.Plan.{length-bare, length-purge, plan-next, plan-all, purge-here}
 use borrow.Author.Needs.{needs}
@@ -30,14 +31,17 @@ abbrev μ-loop : tie.MeasureT-loop
 in-use-requires : tie.Need-in-use-requires Inv-loop μ-loop
 in-use-requires c κs = search needs
 
+page-requires : tie.Need-page-requires Inv-loop μ-loop
+page-requires c κs = search needs
+
 find-top-requires : tie.Need-find-top-requires Inv-loop μ-loop
-find-top-requires c κs = rw (c .in-use .ensures) (in-use-le (c .before .args .t1 .count) 64)
+find-top-requires c κs = search needs
 
 loop-holds : tie.Need-loop-holds Inv-loop μ-loop
-loop-holds c = let a = c .before .before .args .t1 in let n = c .before .in-use .result in
-    let u = uses a n (unmapped _ (a .at) 64 (c .before .before .good .0 .1 .1 .0 .1 .0 .1))
-        (c .before .in-use .ensures) in
-    (search needs, u, refl, rw (u .first) at (c .find-top .ensures))
+unfolding appliesView
+loop-holds c = let b = c .before .before in let a = b .before .args .t1 in let n = b .in-use .result in
+    let u = uses a n (unmapped _ (a .at) 64 (b .before .good .0 .1 .1 .0 .1 .0 .1)) (b .in-use .ensures) in
+    (search needs, u, refl, rw (u .first, c .before .page .ensures) at (c .find-top .ensures))
 
 mul-e : tie.Need-mul-e Inv-loop μ-loop
 mul-e c = search needs
@@ -61,9 +65,9 @@ loop-less : tie.Need-loop-less Inv-loop μ-loop
 loop-less c = search needs
 
 loop-again : tie.Need-loop-again Inv-loop μ-loop
-loop-again c = let k = c .before .before in let s = k .before .before .before .before .args in let a = s .t1
+loop-again c = let k = c .before .before in let s = k .before .before .before .before .before .args in let a = s .t1
     in let l = k .before .loop in
-    let n = k .before .before .before .in-use .result in let ss = spansIn a in let e = getD (a .at) (l .k)
+    let n = k .before .before .before .before .in-use .result in let ss = spansIn a in let e = getD (a .at) (l .k)
         noEntry in
     (search needs, l .inv .1, rw (l .inv .2, add-one)
       (plan-next a n (l .inv .1) (purgeEpochs (s .l) ss ss) (length-purge (s .l) ss ss ∙ length-bare 0
@@ -74,9 +78,9 @@ loop-again c = let k = c .before .before in let s = k .before .before .before .b
           ∙ purge-here a n (l .inv .1) (l .k) (k .loop-test .taken) (s .l)))), l .inv .3)
 
 returns : tie.Need-returns Inv-loop μ-loop
-returns c = let s = c .before .before .before .before .args in let a = s .t1 in let l = c .before .loop in let
+returns c = let s = c .before .before .before .before .before .args in let a = s .t1 in let l = c .before .loop in let
     ss = spansIn a in
-    rw (l .inv .2, plan-all a (c .before .before .before .in-use .result) (l .inv .1)
+    rw (l .inv .2, plan-all a (c .before .before .before .before .in-use .result) (l .inv .1)
         (purgeEpochs (s .l) ss ss)
       (length-purge (s .l) ss ss ∙ length-bare 0 (entriesIn a)) (l .k) (c .loop-test .left))
 
@@ -87,6 +91,7 @@ purge-plan-spec =
     Inv-loop
     μ-loop
     in-use-requires
+    page-requires
     find-top-requires
     loop-holds
     mul-e

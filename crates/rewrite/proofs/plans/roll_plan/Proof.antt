@@ -7,9 +7,9 @@ use native.Mathlib.Numerals.{add-one}
 use lib.ListN.{take}
 use Rattle.lists.specs.Lists.{pad}
 use Rattle.rules.specs.Limits.{entriesMax}
-use Rattle.rewrite.specs.Bare.{entriesIn}
+use Rattle.visible.specs.Bare.{entriesIn}
 use Rattle.rewrite.specs.Plan.{spansIn, rollEpochs}
-use Rattle.rewrite.proofs.Laws.Places.{unmapped}
+use Rattle.visible.proofs.Laws.Places.{unmapped}
 use Rattle.rewrite.proofs.Laws.Area.{Uses, uses}
 use Rattle.rewrite.proofs.Laws.Plan.{length-bare, length-roll, plan-next, plan-all, roll-here}
 use borrow.Author.Needs.{needs}

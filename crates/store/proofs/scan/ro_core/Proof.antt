@@ -59,6 +59,9 @@ returns-3 c =
 epoch-at-requires : tie.Need-epoch-at-requires
 epoch-at-requires c κs = search needs
 
+page-requires : tie.Need-page-requires
+page-requires c κs = search needs
+
 mul-q : tie.Need-mul-q
 mul-q c = search needs
 
@@ -71,13 +74,14 @@ scan-partition-requires c κs = search needs
 returns-4 : tie.Need-returns-4
 unfolding roLook
 returns-4 c =
-    let d = c .before .before .before in
+    let g = c .before .before .before in
+    let d = g .before in
     let o = d .before in
     let e = o .before .before .before in
-    c .scan-partition .ensures ∙ rw (sound (e .before), known e, pending o, d .epoch-at .ensures)
+    c .scan-partition .ensures ∙ rw (sound (e .before), known e, pending o, g .page .ensures, d .epoch-at .ensures)
 
 pub ro-core-spec : {M : Type 1} → statement M
 ro-core-spec =
     tie.close
     (tie.spec is-sound-requires refused-requires returns refused-requires-2 returns-2 has-reader-requires
-      refused-requires-3 returns-3 epoch-at-requires mul-q element-copy-out-q scan-partition-requires returns-4)
+      refused-requires-3 returns-3 epoch-at-requires page-requires mul-q element-copy-out-q scan-partition-requires returns-4)

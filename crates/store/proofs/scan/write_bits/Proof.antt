@@ -8,7 +8,8 @@ use native.Mathlib.Numerals.{add-one}
 use native.Mathlib.Omega.{arith}
 use lib.ListN.{length, take, drop, length-set}
 use borrow.Author.Needs.{needs}
-use Rattle.store.proofs.Laws.Scan.{look-64, put-next, copied-many, copied-short, copied-fits}
+use Rattle.compact.proofs.Laws.Areas.{put-next}
+use Rattle.store.proofs.Laws.Scan.{look-64, copied-many, copied-short, copied-fits}
 use Rattle.store.proofs.scan.write_bits.Statement.{statement}
 use Rattle.store.proofs.scan.write_bits.Tie as tie
 

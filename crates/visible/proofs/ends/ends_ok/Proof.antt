@@ -11,7 +11,8 @@ use lib.ListN.{length, take, drop, getD, drop-of-length-le, length-take}
 use Rattle.rules.specs.Limits.{entriesMax}
 use Rattle.rules.specs.WellFormed.{endsOk}
 use Rattle.visible.proofs.Laws.Ends.{ends-wrong, ends-next}
-use Rattle.visible.proofs.Laws.Places.{unmapped, drop-used, noEntry}
+use Rattle.visible.proofs.Laws.Places.{unmapped, drop-used}
+use Rattle.visible.specs.Bare.{noEntry}
 use borrow.Author.Needs.{needs}
 use Rattle.visible.proofs.ends.ends_ok.Statement.{statement}
 use Rattle.visible.proofs.ends.ends_ok.Tie as tie

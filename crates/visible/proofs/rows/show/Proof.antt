@@ -12,7 +12,8 @@ use Rattle.rules.specs.declared.Entry.{Entry}
 use Rattle.rules.specs.Limits.{entriesMax}
 use Rattle.visible.specs.View.{seesView}
 use Rattle.visible.specs.Passes.{asTop}
-use Rattle.visible.proofs.Laws.Places.{unmapped, drop-used, noEntry}
+use Rattle.visible.proofs.Laws.Places.{unmapped, drop-used}
+use Rattle.visible.specs.Bare.{noEntry}
 use Rattle.visible.proofs.Laws.Rows.{Laid, laid-none, entry-ok, entry-within, laid-next, laid-all}
 use borrow.Author.Needs.{needs}
 use Rattle.visible.proofs.rows.show.Statement.{statement}

@@ -1,5 +1,5 @@
--- The entries of an area as spans, whatever the words: what a rewrite decides needs only their number. 01
--- "Lots".
+-- The entries of an area as spans, whatever the words: what is shown and what a rewrite keeps needs only their
+-- number. 01 "Lots".
 -- In order: entriesIn, noEntry, bareSpan, bare. Laws: proofs/Laws.
 -- Assumes nothing.
 use mathlib.Core.List.{List, [], _∷_}
@@ -7,7 +7,7 @@ use Prim.Native.Nat.{ℕ, _-_}
 use lib.ListN.{take, replicate}
 use Rattle.rules.specs.declared.Entry.{Entry}
 use Rattle.rules.specs.Span.{Span}
-use Rattle.rewrite.specs.declared.Area.{Area}
+use Rattle.visible.specs.declared.Area.{Area}
 
 -- the entries in use, at most 64
 abbrev pub entriesIn : Area → List Entry
