@@ -7,6 +7,7 @@ pub mod Look1
 pub mod Picks
 pub mod Rewrite1
 pub mod Rewrite2
+pub mod Saved
 pub mod Saves
 pub mod Scan
 pub mod Shown

@@ -8,6 +8,8 @@ use Rattle.rules.proofs.Answer.Laws as AnswerL
 use Rattle.lent.proofs.Shown.{Shown}
 use Rattle.store.proofs.Kept as KeptT
 use Rattle.store.proofs.Kept.Laws as KeptL
+use Rattle.store.proofs.purging.Purge as PurgeT
+use Rattle.store.proofs.purging.Purge.Laws as PurgeL
 use Rattle.store.proofs.scan.Look as LookT
 use Rattle.store.proofs.scan.Look.Laws as LookL
 use Rattle.store.proofs.write.Write as WriteT
@@ -26,6 +28,13 @@ write = record {
   val = LL.val WriteT.the-type WriteL.the-laws; tells = LL.tells WriteT.the-type WriteL.the-laws;
   wt = λ 𝓤 H A G z g. LL.lawful WriteT.the-type WriteL.the-laws 𝓤 H A G .typed z _ g .0; last = λ x. tt;
   silent = λ x f. refl; makes = λ 𝓤 H A _. LL.makes WriteT.the-type WriteL.the-plain 𝓤 H A }
+
+abbrev pub purge : Shown
+purge = record {
+  row = PurgeT.the-row; mir = PurgeL.mir;
+  val = LL.val PurgeT.the-type PurgeL.the-laws; tells = LL.tells PurgeT.the-type PurgeL.the-laws;
+  wt = λ 𝓤 H A G z g. LL.lawful PurgeT.the-type PurgeL.the-laws 𝓤 H A G .typed z _ g .0; last = λ x. tt;
+  silent = λ x f. refl; makes = λ 𝓤 H A _. LL.makes PurgeT.the-type PurgeL.the-plain 𝓤 H A }
 
 abbrev pub look : Shown
 look = record {

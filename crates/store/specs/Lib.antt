@@ -1,3 +1,4 @@
 pub mod Kept
 pub mod Write
+pub mod Purge
 pub mod Scan

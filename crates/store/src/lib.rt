@@ -1,7 +1,7 @@
 // The store: one public function for each call of 01. The books are kept by value, the areas of rows and of entries are
 // lent. Each call loads the entries, decides by value, then writes; what it answers and leaves is rules' step.
 ghost use mathlib.Core.Path.{_≡_};
-ghost use Rattle.rules.specs.Step.{step, begin, append, clear, commit, create, beginRo, endRo, scan, advanceLse};
+ghost use Rattle.rules.specs.Step.{step, begin, append, clear, commit, create, beginRo, endRo, scan, advanceLse, purge};
 ghost use Rattle.rules.specs.declared.Reader.the-variants.{Rw, Ro};
 ghost use Rattle.store.specs.Kept.{storeOf, Left};
 ghost use Rattle.store.specs.Scan.{Showed};
@@ -12,6 +12,7 @@ use rules::State;
 
 mod books;
 mod limits;
+mod purging;
 mod scan;
 mod sound;
 mod write;
@@ -133,4 +134,17 @@ pub fn advance_lse(state: State, entries: &[Entry], rows: &[u64], a: u64) -> Kep
     let m = rows.len();
     let t = lent::load_all(entries);
     books::advance_lse_core(state, t, n, m, a)
+}
+
+// Purging partition p at LSE. Refusals, in this order: 5, 1. rewrite::force::in_force returns the part in force.
+pub fn purge(state: State, entries: &mut [Entry], rows: &mut [u64], p: u64) -> Kept
+    ensures { λ r. ⌜ Left (step (purge p) (storeOf state (now (rows .entry)) (now (entries .entry)))) r (now (rows .exit)) (now (entries .exit)) ⌝ }
+{
+    let n = entries.len();
+    let m = rows.len();
+    let t = lent::load_all(entries);
+    let w = purging::purge_core(state, t, n, m, p);
+    purging::put_purge(entries, w);
+    purging::purge_rows(rows, w);
+    purging::purge_done(w)
 }

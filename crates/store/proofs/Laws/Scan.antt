@@ -103,7 +103,7 @@ module _ (s : State) (es : List Entry) (rs : List ℕ) (ok : StoreOk (storeOf s 
       rw (lt-ltb (q .area) areasMax (ok .areas .inside p h))
         (take-take (q .entries) entriesMax (drop (entriesMax * q .area) es) (omega arith))
 
-  entries-facts : EntriesOk (s .manager) (partitionOf p s .rows) (entriesAt p (storeOf s rs es))
+  pub entries-facts : EntriesOk (s .manager) (partitionOf p s .rows) (entriesAt p (storeOf s rs es))
   entries-facts = let part = ok .partition p h in
       rw (part .entries-are, ← part .row-count) at (entries-ok (s .manager) (spansAt p (storeOf s rs es)) (part .spans-ok))
 
@@ -112,7 +112,7 @@ module _ (s : State) (es : List Entry) (rs : List ℕ) (ok : StoreOk (storeOf s 
       scan-ok (areaAt es q) (q .rows) noBits (rw table-entries (o .ends)) (o .rows-fit)
         (bytes-fit (q .rows) (o .rows-fit))
 
-  words : length (rowsAt p (storeOf s rs es)) ≡ partitionOf p s .rows
+  pub words : length (rowsAt p (storeOf s rs es)) ≡ partitionOf p s .rows
   words = let part = ok .partition p h in ap length (sym (part .words-are)) ∙ sym (part .row-count)
 
   module _ (r : Reader) (v : View) (sees : seesView v ≡ seesOf r (s .manager))

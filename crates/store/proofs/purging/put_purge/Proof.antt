@@ -1,0 +1,34 @@
+-- `store::purging::put_purge` meets its contract: it has the shape that lent's `Saves.antt` walks, with 64 turns.
+-- Assumes nothing.
+use native.Mathlib.Omega.{arith}
+use contract.Running.{givenOf, tables, tablesOf}
+use denote.Triple.Spec.{tripleOf}
+use denote.Triple.Table.{entered, cited}
+use Rattle.lent.proofs.Saves.{PutEntry, Place, Area, meets}
+use Rattle.lent.proofs.put_entry.Symbol as put-entry
+use Rattle.lent.proofs.put_entry.Met as put-entry-thm
+use Rattle.store.specs.Purge.{placeOf, newOf}
+use Rattle.store.proofs.Types.{purge}
+use Rattle.store.proofs.purging.place_of.Symbol as place-of
+use Rattle.store.proofs.purging.place_of.Met as place-of-thm
+use Rattle.store.proofs.purging.entries_of.Symbol as entries-of
+use Rattle.store.proofs.purging.entries_of.Met as entries-of-thm
+use Rattle.store.proofs.purging.put_purge.Key.{name as #store·put-purge}
+use Rattle.store.proofs.purging.put_purge as f
+use Rattle.store.proofs.purging.put_purge.Statement as stated
+use Rattle.store.proofs.purging.put_purge.Code as code
+
+pub put-purge-spec : {M : Type 1} → stated.statement M
+unfolding code.routine tablesOf
+put-purge-spec 𝓤 H 𝓜 𝓖 𝓡 =
+    entered 𝓤 H (tripleOf 𝓤 H (𝓖 .A) f.signature (f.spec 𝓤 H (𝓖 .A) (𝓜 .mem) (𝓡 .run)))
+    (tables 𝓤 H 𝓜 𝓡 code.env .C) (tables 𝓤 H 𝓜 𝓡 code.env .Λ) #store·put-purge code.function
+    (code.unfolded 𝓤 H 𝓜 𝓡)
+    (meets 64 purge (omega arith) tt place-of.name entries-of.name placeOf newOf
+    𝓤 H (𝓖 .A) (givenOf 𝓤 H 𝓜 𝓖) (𝓜 .mem) (𝓡 .run) (tablesOf 𝓤 H 𝓜 (tables 𝓤 H 𝓜 𝓡 code.env))
+    (cited 𝓤 H (PutEntry 𝓤 H (𝓖 .A) (𝓜 .mem) (𝓡 .run)) 𝓜 𝓡 code.env put-entry.name put-entry.routine
+      code.calls-lent·put-entry (put-entry-thm.met 𝓤 H 𝓜 𝓖 𝓡))
+    (cited 𝓤 H (Place 64 purge placeOf newOf 𝓤 H (𝓖 .A)) 𝓜 𝓡 code.env place-of.name place-of.routine
+      code.calls-store·purging·place-of (place-of-thm.met 𝓤 H 𝓜 𝓖 𝓡))
+    (cited 𝓤 H (Area 64 purge placeOf newOf 𝓤 H (𝓖 .A)) 𝓜 𝓡 code.env entries-of.name entries-of.routine
+      code.calls-store·purging·entries-of (entries-of-thm.met 𝓤 H 𝓜 𝓖 𝓡)))

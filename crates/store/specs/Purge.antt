@@ -1,0 +1,81 @@
+-- What purge decides by value. 01 "Lots", Purge.
+-- In order: nothing written, a rewrite, purge, what is written where, the end. Laws: proofs/Laws/Purge.antt.
+-- Assumes nothing.
+use mathlib.Core.Bool.{not, _&&_, cond}
+use mathlib.Core.List.{List}
+use Prim.Native.Nat.{ℕ, _+_, _*_}
+use lib.ListN.{replicate}
+use lib.Dec.{ltb, leb}
+use Rattle.rules.specs.Limits.{partitionsMax, areasMax, rowsMax, entriesMax}
+use Rattle.rules.specs.Rewrite.{skips}
+use Rattle.rules.specs.declared.Answer.{Answer}
+use Rattle.rules.specs.declared.Answer.the-variants.{Rewritten, Skipped, Refused}
+use Rattle.rules.specs.declared.Refusal.the-variants.{UnknownPartition, Unsound}
+use Rattle.rules.specs.declared.Entry.{Entry}
+use Rattle.rules.specs.declared.Partition.{Partition}
+use Rattle.rules.specs.declared.State.{State}
+use Rattle.lent.specs.Entries.{none}
+use Rattle.lent.specs.declared.Table.{Table}
+use Rattle.rewrite.specs.Plan.{spansIn, planOf, purgeEpochs}
+use Rattle.rewrite.specs.Kept.{rewrittenOf}
+use Rattle.visible.specs.declared.Area.{Area}
+use Rattle.rewrite.specs.declared.Plan.{Plan}
+use Rattle.compact.specs.Areas.{areaAt, movedTo}
+use Rattle.store.specs.Kept.{soundOf}
+use Rattle.store.specs.Write.{partitionOf}
+use Rattle.store.specs.declared.Kept.{Kept}
+use Rattle.store.specs.declared.purging.Purge.{Purge}
+
+-- no entry
+abbrev pub noArea : Area
+noArea = record { at = replicate 64 none; count = 0 }
+
+-- of n entries none is written, and no row: an area is not apart from itself
+abbrev pub unwrittenPurge : State → ℕ → Answer → Purge
+unwrittenPurge s n answer = record {
+  answer = answer; state = s; old = noArea; plan = record { at = replicate 64 0 }; new = noArea;
+  entry = 0; past = n; from = 0; to = 0 }
+
+-- the index of an area's first element, k to an area; 0 where the area is none of the nine
+abbrev pub baseOf : ℕ → ℕ → ℕ
+baseOf k area = cond (ltb area areasMax) (k * area) 0
+
+abbrev pub planAt : ℕ → Area → Plan
+planAt l a = planOf (purgeEpochs l (spansIn a) (spansIn a))
+
+-- partition p, which is q with the entries of area a, purged at l into the spare area
+abbrev pub movedPurge : State → ℕ → ℕ → Partition → Area → ℕ → Purge
+movedPurge s n p q a l =
+    let done = rewrittenOf a (planAt l a) in
+    let spare = s .partitions .spare in
+    record {
+      answer = Rewritten (done .rows);
+      state = record {
+        manager = s .manager; partitions = movedTo p (done .rows) (done .area .count) (s .partitions) };
+      old = a; plan = planAt l a; new = done .area;
+      entry = baseOf entriesMax spare; past = n; from = baseOf rowsMax (q .area); to = baseOf rowsMax spare }
+
+-- 01's order: 5, 1; then skipped or rewritten
+unfoldable pub purgePlan : State → Table → ℕ → ℕ → ℕ → Purge
+purgePlan s t n m p =
+    let q = partitionOf p s in
+    let a = areaAt (t .at) q in
+    let l = s .manager .clock .lse in
+    cond (not (soundOf s t n m)) (unwrittenPurge s n (Refused Unsound))
+    (cond (leb partitionsMax p) (unwrittenPurge s n (Refused UnknownPartition))
+    (cond (skips l (spansIn a)) (unwrittenPurge s n (Skipped (q .rows)))
+    (movedPurge s n p q a l)))
+
+-- ---- the entries that are written, and where
+
+abbrev pub newOf : Purge → List Entry
+newOf w = w .new .at
+
+-- past the end for a place that is not in use
+unfoldable pub placeOf : Purge → ℕ → ℕ
+placeOf w i =
+    cond (ltb i (w .new .count) && (ltb i entriesMax && ltb (w .entry) (entriesMax * areasMax)))
+    (w .entry + i) (w .past)
+
+abbrev pub donePurge : Purge → Kept
+donePurge w = record { answer = w .answer; state = w .state }

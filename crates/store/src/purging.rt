@@ -1,0 +1,160 @@
+// Purge (01 "Lots"), decided by value: what is refused or skipped, and what a rewrite puts into the spare area.
+ghost use mathlib.Core.Path.{_≡_};
+ghost use Rattle.lent.specs.Shapes.{saved};
+ghost use Rattle.rewrite.specs.Copied.{rowsCopied};
+ghost use Rattle.store.specs.Purge.{unwrittenPurge, movedPurge, purgePlan, placeOf, newOf, donePurge};
+
+use crate::limits::ENTRIES;
+use crate::limits::ENTRIES_LENT;
+use crate::limits::PARTITIONS;
+use crate::sound;
+use crate::Kept;
+use lent::Table;
+use rewrite::Plan;
+use rules::Answer;
+use rules::Entry;
+use rules::Partition;
+use rules::Refusal;
+use rules::State;
+use visible::Area;
+
+// What a purge answers and keeps, and what it is to write: the entries in use of `new` at index `entry` on, and the
+// rows that the plan keeps of `old`, which lie from row `from` on, at row `to` on. The index `past` is past the end.
+pub struct Purge {
+    pub answer: Answer,
+    pub state: State,
+    pub old: Area,
+    pub plan: Plan,
+    pub new: Area,
+    pub entry: usize,
+    pub past: usize,
+    pub from: usize,
+    pub to: usize,
+}
+
+// n entries are lent: none is written, and no row, since no area lies apart from itself.
+fn unwritten(state: State, n: usize, answer: Answer) -> Purge
+    ensures { λ r. ⌜ r ≡ unwrittenPurge state n answer ⌝ }
+{
+    let at = [Entry {
+        epoch: 0,
+        end: 0,
+        mark: 0,
+    }; ENTRIES];
+    let none = Area { at: at, count: 0 };
+    let plan = Plan { at: [0; ENTRIES] };
+    Purge {
+        answer: answer,
+        state: state,
+        old: none,
+        plan: plan,
+        new: none,
+        entry: 0,
+        past: n,
+        from: 0,
+        to: 0,
+    }
+}
+
+// Partition p, which is q with the entries of area a, purged at l into the spare area.
+fn moved(state: State, n: usize, p: usize, q: Partition, a: Area, l: u64) -> Purge
+    ensures { λ r. ⌜ r ≡ movedPurge state n p q a l ⌝ }
+{
+    let partitions = state.partitions;
+    let spare = partitions.spare;
+    let plan = rewrite::plans::purge_plan(a, l);
+    let done = rewrite::keep::rewritten(a, plan);
+    let next = compact::areas::moved(partitions, p, done);
+    let mut after = state;
+    after.partitions = next;
+    let new = done.area;
+    let entry = compact::areas::entry_base(spare);
+    let from = compact::areas::row_base(q.area);
+    let to = compact::areas::row_base(spare);
+    Purge {
+        answer: Answer::Rewritten { rows: done.rows },
+        state: after,
+        old: a,
+        plan: plan,
+        new: new,
+        entry: entry,
+        past: n,
+        from: from,
+        to: to,
+    }
+}
+
+// A purge of partition p at LSE.
+pub fn purge_core(state: State, t: Table, n: usize, m: usize, p: u64) -> Purge
+    ensures { λ r. ⌜ r ≡ purgePlan state t n m p ⌝ }
+{
+    if !sound::is_sound(state, t, n, m) {
+        return unwritten(state, n, Answer::Refused(Refusal::Unsound));
+    }
+    if PARTITIONS <= p {
+        return unwritten(state, n, Answer::Refused(Refusal::UnknownPartition));
+    }
+    let partitions = state.partitions;
+    let place = p as usize;
+    let q = partitions.at[place];
+    let a = compact::areas::area_of(t, q);
+    let l = state.manager.clock.lse;
+    if rewrite::tests::skips(a, l) {
+        return unwritten(state, n, Answer::Skipped { rows: q.rows });
+    }
+    moved(state, n, place, q, a, l)
+}
+
+// The new entries, and where each goes, by calls: the walk of put_purge then knows no field of a purge.
+pub fn entries_of(w: Purge) -> [Entry; 64]
+    ensures { λ r. ⌜ r ≡ newOf w ⌝ }
+{
+    let new = w.new;
+    new.at
+}
+
+pub fn place_of(w: Purge, i: usize) -> usize
+    ensures { λ r. ⌜ r ≡ placeOf w i ⌝ }
+{
+    if w.new.count <= i {
+        return w.past;
+    }
+    if ENTRIES <= i {
+        return w.past;
+    }
+    if ENTRIES_LENT <= w.entry {
+        return w.past;
+    }
+    w.entry + i
+}
+
+pub fn put_purge(entries: &mut [Entry], w: Purge)
+    ensures { λ _. ⌜ now (entries .exit) ≡ saved placeOf newOf (now (entries .entry)) w 64 ⌝ }
+{
+    let a = entries_of(w);
+    let mut i = 0;
+    while i < ENTRIES {
+        let j = place_of(w, i);
+        let e = a[i];
+        lent::put_entry(entries, j, e);
+        i = i + 1;
+    }
+}
+
+pub fn purge_rows(rows: &mut [u64], w: Purge)
+    ensures { λ _. ⌜ now (rows .exit) ≡ rowsCopied (w .old) (w .plan) (w .from) (w .to) (now (rows .entry)) ⌝ }
+{
+    let old = w.old;
+    let plan = w.plan;
+    let from = w.from;
+    let to = w.to;
+    rewrite::copying::copy_kept(rows, old, plan, from, to);
+}
+
+pub fn purge_done(w: Purge) -> Kept
+    ensures { λ r. ⌜ r ≡ donePurge w ⌝ }
+{
+    let answer = w.answer;
+    let state = w.state;
+    Kept { answer: answer, state: state }
+}
