@@ -1,5 +1,5 @@
 -- A partition's entries among those of all areas, and its place after a rewrite. 01 "Lots", Roll back, Purge.
--- In order: areaAt, movedTo. Laws: proofs/Laws/Areas.antt.
+-- In order: baseOf, areaAt, movedTo. Laws: proofs/Laws/Areas.antt.
 -- Assumes nothing.
 use mathlib.Core.Bool.{cond}
 use mathlib.Core.List.{List}
@@ -14,10 +14,14 @@ use Rattle.rules.specs.declared.Partition.{Partition}
 use Rattle.rules.specs.declared.Partitions.{Partitions}
 use Rattle.visible.specs.declared.Area.{Area}
 
--- the entries of partition q, by its area; the first area where it is none of the nine
+-- the index of an area's first element, where each has k; of the first area's where it is none of the nine
+abbrev pub baseOf : ℕ → ℕ → ℕ
+baseOf k area = cond (ltb area areasMax) (k * area) 0
+
+-- the entries of partition q
 unfoldable pub areaAt : List Entry → Partition → Area
 areaAt es q = record {
-  at = part (cond (ltb (q .area) areasMax) (entriesMax * q .area) 0) entriesMax es; count = q .entries }
+  at = part (baseOf entriesMax (q .area)) entriesMax es; count = q .entries }
 
 -- partition p in the area that was spare, with so many rows and entries; its old area is the spare
 unfoldable pub movedTo : ℕ → ℕ → ℕ → Partitions → Partitions

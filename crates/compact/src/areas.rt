@@ -7,11 +7,8 @@ use rules::Partitions;
 use visible::Area;
 
 ghost use mathlib.Core.Path.{_≡_};
-ghost use mathlib.Core.Bool.{cond};
-ghost use Prim.Native.Nat.{_*_};
-ghost use lib.Dec.{ltb};
-ghost use Rattle.rules.specs.Limits.{areasMax, rowsMax, entriesMax};
-ghost use Rattle.compact.specs.Areas.{areaAt, movedTo};
+ghost use Rattle.rules.specs.Limits.{rowsMax, entriesMax};
+ghost use Rattle.compact.specs.Areas.{baseOf, areaAt, movedTo};
 
 // Rules' areasMax, entriesMax and rowsMax.
 const AREAS: usize = 9;
@@ -21,7 +18,7 @@ const PARTITIONS: usize = 8;
 
 // The index of an area's first entry; of the first area's where the area is none of the nine.
 pub fn entry_base(area: usize) -> usize
-    ensures { λ r. ⌜ r ≡ cond (ltb area areasMax) (entriesMax * area) 0 ⌝ }
+    ensures { λ r. ⌜ r ≡ baseOf entriesMax area ⌝ }
 {
     if area < AREAS {
         return ENTRIES * area;
@@ -31,7 +28,7 @@ pub fn entry_base(area: usize) -> usize
 
 // The index of an area's first row; of the first area's where the area is none of the nine.
 pub fn row_base(area: usize) -> usize
-    ensures { λ r. ⌜ r ≡ cond (ltb area areasMax) (rowsMax * area) 0 ⌝ }
+    ensures { λ r. ⌜ r ≡ baseOf rowsMax area ⌝ }
 {
     if area < AREAS {
         return ROWS * area;

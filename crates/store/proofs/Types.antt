@@ -10,6 +10,8 @@ use Rattle.store.proofs.Kept as KeptT
 use Rattle.store.proofs.Kept.Laws as KeptL
 use Rattle.store.proofs.purging.Purge as PurgeT
 use Rattle.store.proofs.purging.Purge.Laws as PurgeL
+use Rattle.store.proofs.rollback.RollBack as RollBackT
+use Rattle.store.proofs.rollback.RollBack.Laws as RollBackL
 use Rattle.store.proofs.scan.Look as LookT
 use Rattle.store.proofs.scan.Look.Laws as LookL
 use Rattle.store.proofs.write.Write as WriteT
@@ -35,6 +37,13 @@ purge = record {
   val = LL.val PurgeT.the-type PurgeL.the-laws; tells = LL.tells PurgeT.the-type PurgeL.the-laws;
   wt = λ 𝓤 H A G z g. LL.lawful PurgeT.the-type PurgeL.the-laws 𝓤 H A G .typed z _ g .0; last = λ x. tt;
   silent = λ x f. refl; makes = λ 𝓤 H A _. LL.makes PurgeT.the-type PurgeL.the-plain 𝓤 H A }
+
+abbrev pub rollBack : Shown
+rollBack = record {
+  row = RollBackT.the-row; mir = RollBackL.mir;
+  val = LL.val RollBackT.the-type RollBackL.the-laws; tells = LL.tells RollBackT.the-type RollBackL.the-laws;
+  wt = λ 𝓤 H A G z g. LL.lawful RollBackT.the-type RollBackL.the-laws 𝓤 H A G .typed z _ g .0; last = λ x. tt;
+  silent = λ x f. refl; makes = λ 𝓤 H A _. LL.makes RollBackT.the-type RollBackL.the-plain 𝓤 H A }
 
 abbrev pub look : Shown
 look = record {

@@ -20,7 +20,7 @@ use Rattle.rewrite.specs.Plan.{spansIn, planOf, purgeEpochs}
 use Rattle.rewrite.specs.Kept.{rewrittenOf}
 use Rattle.visible.specs.declared.Area.{Area}
 use Rattle.rewrite.specs.declared.Plan.{Plan}
-use Rattle.compact.specs.Areas.{areaAt, movedTo}
+use Rattle.compact.specs.Areas.{baseOf, areaAt, movedTo}
 use Rattle.store.specs.Kept.{soundOf}
 use Rattle.store.specs.Write.{partitionOf}
 use Rattle.store.specs.declared.Kept.{Kept}
@@ -35,10 +35,6 @@ abbrev pub unwrittenPurge : State → ℕ → Answer → Purge
 unwrittenPurge s n answer = record {
   answer = answer; state = s; old = noArea; plan = record { at = replicate 64 0 }; new = noArea;
   entry = 0; past = n; from = 0; to = 0 }
-
--- the index of an area's first element, k to an area; 0 where the area is none of the nine
-abbrev pub baseOf : ℕ → ℕ → ℕ
-baseOf k area = cond (ltb area areasMax) (k * area) 0
 
 abbrev pub planAt : ℕ → Area → Plan
 planAt l a = planOf (purgeEpochs l (spansIn a) (spansIn a))

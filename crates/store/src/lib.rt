@@ -1,7 +1,8 @@
 // The store: one public function for each call of 01. The books are kept by value, the areas of rows and of entries are
 // lent. Each call loads the entries, decides by value, then writes; what it answers and leaves is rules' step.
 ghost use mathlib.Core.Path.{_≡_};
-ghost use Rattle.rules.specs.Step.{step, begin, append, clear, commit, create, beginRo, endRo, scan, advanceLse, purge};
+ghost use Rattle.rules.specs.Step.{step, begin, append, clear, commit, rollback, create, beginRo, endRo, scan};
+ghost use Rattle.rules.specs.Step.{advanceLse, purge};
 ghost use Rattle.rules.specs.declared.Reader.the-variants.{Rw, Ro};
 ghost use Rattle.store.specs.Kept.{storeOf, Left};
 ghost use Rattle.store.specs.Scan.{Showed};
@@ -13,6 +14,7 @@ use rules::State;
 mod books;
 mod limits;
 mod purging;
+mod rollback;
 mod scan;
 mod sound;
 mod write;
@@ -78,6 +80,19 @@ pub fn commit(state: State, entries: &[Entry], rows: &[u64], a: u64) -> Kept
     let m = rows.len();
     let t = lent::load_all(entries);
     books::commit_core(state, t, n, m, a)
+}
+
+// Rolling back transaction a in all partitions. Refusals, in this order: 5, 2.
+pub fn roll_back(state: State, entries: &mut [Entry], rows: &mut [u64], a: u64) -> Kept
+    ensures { λ r. ⌜ Left (step (rollback a) (storeOf state (now (rows .entry)) (now (entries .entry)))) r (now (rows .exit)) (now (entries .exit)) ⌝ }
+{
+    let n = entries.len();
+    let m = rows.len();
+    let t = lent::load_all(entries);
+    let w = rollback::roll_back_core(state, t, n, m, a);
+    rollback::put_roll_back(entries, w);
+    rollback::roll_back_rows(rows, w);
+    rollback::roll_back_done(w)
 }
 
 // Opening a page at epoch a; 0 means LCE. Refusals, in this order: 5, 4, 6, 7.

@@ -144,13 +144,13 @@ module _ (st : Store) (ok : StoreOk st) (p : ℕ) (h : p < partitionsMax) where
 
 -- ---- roll back, the partitions below n
 
-record RolledBack (i n : ℕ) (st st′ : Store) : Type 0 where
-  sound : StoreOk st′
-  manager : managerOf st′ ≡ managerOf st
-  below : (p : ℕ) → p < partitionsMax → p < n → spansAt p st′ ≡ rolledBack i (spansAt p st)
-  above : (p : ℕ) → p < partitionsMax → n ≤ p → spansAt p st′ ≡ spansAt p st
+pub record RolledBack (i n : ℕ) (st st′ : Store) : Type 0 where
+  pub sound : StoreOk st′
+  pub manager : managerOf st′ ≡ managerOf st
+  pub below : (p : ℕ) → p < partitionsMax → p < n → spansAt p st′ ≡ rolledBack i (spansAt p st)
+  pub above : (p : ℕ) → p < partitionsMax → n ≤ p → spansAt p st′ ≡ spansAt p st
 
-rolledBack-below : (i n : ℕ) (st : Store) → StoreOk st → n ≤ partitionsMax → RolledBack i n st (rolledBackBelow i n st)
+pub rolledBack-below : (i n : ℕ) (st : Store) → StoreOk st → n ≤ partitionsMax → RolledBack i n st (rolledBackBelow i n st)
 unfolding rolledBackBelow
 rolledBack-below i zero st ok h = record { sound = ok; manager = refl; below = λ p l k. absurd (omega arith);
     above = λ p l k. refl }

@@ -41,10 +41,10 @@ use Rattle.visible.specs.declared.Area.{Area}
 use Rattle.rewrite.specs.declared.Plan.{Plan}
 use Rattle.rewrite.proofs.Laws.Store.{Dated, dated, area-entries, skips-same, purged-area, purged-copied}
 use Rattle.rewrite.proofs.Laws.Copied.{apart-before, apart-after}
-use Rattle.compact.specs.Areas.{areaAt, movedTo}
+use Rattle.compact.specs.Areas.{baseOf, areaAt, movedTo}
 use Rattle.store.specs.Kept.{storeOf, Left}
 use Rattle.store.specs.Write.{partitionOf}
-use Rattle.store.specs.Purge.{unwrittenPurge, baseOf, planAt, movedPurge, purgePlan, newOf, placeOf}
+use Rattle.store.specs.Purge.{unwrittenPurge, planAt, movedPurge, purgePlan, newOf, placeOf}
 use Rattle.store.specs.Purge.{donePurge}
 use Rattle.store.specs.declared.Kept.{Kept}
 use Rattle.store.specs.declared.purging.Purge.{Purge}

@@ -1,0 +1,140 @@
+-- Entries, places and rows after a roll back are those of rules' rolledBackBelow. Definitions: specs/Rolled.antt.
+-- In order: a loop that copies; a store's entries and places; one partition of a sound store, its entries and
+-- places, its rows; the partitions below n.
+-- Assumes nothing.
+use mathlib.Core.Path.{_≡_, refl, sym, ap, _∙_}
+use mathlib.Core.Bool.{true}
+use mathlib.Core.List.{List, append-assoc}
+use Prim.Native.Nat.{ℕ, zero, suc, _+_, _*_, _≤_, _<_}
+use native.Mathlib.Omega.{arith}
+use lib.ListN.{length, take, drop}
+use lib.Seq.{paste, length-take-le, take-take}
+use lib.Dec.{ltb}
+use borrow.Author.Tests.{lt-ltb, le-leb, ltb-true, ltb-false}
+use Rattle.lists.specs.Lists.{over}
+use Rattle.lists.proofs.Laws.All.{All}
+use Rattle.lists.proofs.Laws.Bools.{split}
+use Rattle.rules.specs.Limits.{partitionsMax, areasMax, rowsMax, entriesMax}
+use Rattle.rules.specs.Span.{Span, spans, wordsOf}
+use Rattle.rules.specs.Rewrite.{hasEpoch, rolledBack}
+use Rattle.rules.specs.Store.{Store, managerOf, partitionAt, entriesAt, rowsAt, spansAt, laid, laidInSpare}
+use Rattle.rules.specs.Store.{rolledBackAt, rolledBackBelow}
+use Rattle.rules.proofs.Laws.SpansOk.{MarkOk}
+use Rattle.rules.proofs.Laws.SpansTest.{EntriesOk, entries-ok}
+use Rattle.rules.proofs.Laws.WellFormed.{StoreOk}
+use Rattle.rules.proofs.Laws.Store.{rolledBack-below}
+use Rattle.visible.specs.Bare.{entriesIn}
+use Rattle.rewrite.specs.Kept.{asRewritten}
+use Rattle.rewrite.specs.Copied.{areasApart, rowsCopied}
+use Rattle.rewrite.proofs.Laws.Copied.{apart-before, apart-after}
+use Rattle.rewrite.proofs.Laws.Store.{Dated, dated, area-entries, has-same, rolled-area, rolled-copied}
+use Rattle.compact.specs.Areas.{areaAt, movedTo}
+use Rattle.undo.specs.Rolled.{rolledOf, areaIn, planIn, keptIn, concerns, rewrittenAt, rolledAt}
+use Rattle.undo.specs.Rolled.{rolledBelow, rowsRolledAt, rowsRolledBelow}
+use Rattle.undo.specs.declared.Rolled.{Rolled}
+
+-- a copy of the first n of vs
+pub paste-over : {A : Type 0} (xs : List A) (at : ℕ) (vs : List A) (n : ℕ) → n ≤ length vs
+    → paste xs at vs n ≡ over at (take n vs) xs
+paste-over xs at vs n h =
+    rw (length-take-le n vs h) (append-assoc (take at xs) (take n vs) (drop (at + n) xs))
+
+-- the entries and places of a store
+abbrev pub asRolled : Store → Rolled
+asRolled st = rolledOf (record { at = st .entries }) (st .state .partitions)
+
+-- ---- partition p of a sound store
+
+module _ (st : Store) (ok : StoreOk st) (p : ℕ) (h : p < partitionsMax) where
+  area-is : entriesIn (areaIn p (asRolled st)) ≡ entriesAt p st
+  unfolding areaAt
+  area-is = let q = partitionAt p st in let part = ok .partition p h in let n = part .entry-count in
+      let f = part .spans-ok .entries-fit in
+      rw (lt-ltb (q .area) areasMax (ok .areas .inside p h))
+        (take-take (q .entries) entriesMax (drop (entriesMax * q .area) (st .entries)) (omega arith))
+
+  entries-facts : EntriesOk (managerOf st) (partitionAt p st .rows) (entriesIn (areaIn p (asRolled st)))
+  entries-facts = let part = ok .partition p h in
+      rw area-is (rw (part .entries-are, ← part .row-count)
+        at (entries-ok (managerOf st) (spansAt p st) (part .spans-ok)))
+
+  words : length (rowsAt p st) ≡ partitionAt p st .rows
+  words = let part = ok .partition p h in ap length (sym (part .words-are)) ∙ sym (part .row-count)
+
+  spans-are : spans 0 (entriesIn (areaIn p (asRolled st))) (rowsAt p st) ≡ spansAt p st
+  unfolding spansAt
+  spans-are = rw area-is
+
+  epochs-are : All Dated (spans 0 (entriesIn (areaIn p (asRolled st))) (rowsAt p st))
+  epochs-are = rw spans-are (dated (managerOf st) (spansAt p st) (ok .partition p h .spans-ok .epochs))
+
+  marks-are : All MarkOk (spans 0 (entriesIn (areaIn p (asRolled st))) (rowsAt p st))
+  marks-are = rw spans-are (ok .partition p h .spans-ok .marks)
+
+  -- the spare area lies apart
+  apart-are : areasApart (rowsMax * partitionAt p st .area) (rowsMax * st .state .partitions .spare)
+      (length (st .rows)) ≡ true
+  apart-are = let a = partitionAt p st .area in let s = st .state .partitions .spare in
+      let n = ok .rows-length in let l = ok .areas .inside p h in let m = ok .areas .spare-inside in
+      let ne = ok .areas .spare-apart p h in split (ltb a s)
+      (λ t. let g = ltb-true a s t in apart-before (rowsMax * a) (rowsMax * s) (length (st .rows))
+        (omega arith) (omega arith) (omega arith) (omega arith))
+      (λ f. let g = ltb-false a s f in apart-after (rowsMax * a) (rowsMax * s) (length (st .rows))
+        (omega arith) (omega arith) (omega arith) (omega arith)
+        ∙ le-leb (rowsMax * s + rowsMax) (rowsMax * a) (omega arith))
+
+  module _ (i : ℕ) where
+    has-is : concerns i p (asRolled st) ≡ hasEpoch i (spansAt p st)
+    has-is = has-same (areaIn p (asRolled st)) (partitionAt p st .rows) (entries-facts .rows-fit)
+        (entries-facts .ends) (rowsAt p st) words i ∙ ap (hasEpoch i) spans-are
+
+    -- ---- entries and places
+
+    kept-is : keptIn i p (asRolled st) ≡ asRewritten (rolledBack i (spansAt p st))
+    kept-is = rolled-area (areaIn p (asRolled st)) (partitionAt p st .rows) (entries-facts .rows-fit)
+        (entries-facts .ends) (rowsAt p st) words i epochs-are marks-are
+        ∙ ap (λ (ss : List Span). asRewritten (rolledBack i ss)) spans-are
+
+    rewritten-is : rewrittenAt i p (asRolled st) ≡ asRolled (laidInSpare p (rolledBack i (spansAt p st)) st)
+    unfolding rewrittenAt movedTo laidInSpare laid
+    rewritten-is = rw (kept-is, area-entries (rolledBack i (spansAt p st)),
+        lt-ltb (st .state .partitions .spare) areasMax (ok .areas .spare-inside), lt-ltb p partitionsMax h)
+
+    pub rolled-step : rolledAt i p (asRolled st) ≡ asRolled (rolledBackAt i p st)
+    unfolding rolledAt rolledBackAt
+    rolled-step = split (hasEpoch i (spansAt p st)) (λ t. rw (has-is ∙ t, t) rewritten-is) (λ f. rw (has-is ∙ f, f))
+
+    -- ---- rows
+
+    copied-is : rowsCopied (areaIn p (asRolled st)) (planIn i p (asRolled st)) (rowsMax * partitionAt p st .area)
+        (rowsMax * st .state .partitions .spare) (st .rows)
+        ≡ over (rowsMax * st .state .partitions .spare) (wordsOf (rolledBack i (spansAt p st))) (st .rows)
+    copied-is = rolled-copied (areaIn p (asRolled st)) (partitionAt p st .rows) (entries-facts .rows-fit)
+        (entries-facts .ends) (rowsMax * partitionAt p st .area) (rowsMax * st .state .partitions .spare) (st .rows)
+        apart-are i epochs-are marks-are
+        ∙ ap (λ (ss : List Span). over (rowsMax * st .state .partitions .spare) (wordsOf (rolledBack i ss))
+          (st .rows)) spans-are
+
+    pub rows-step : rowsRolledAt i p (asRolled st) (st .rows) ≡ rolledBackAt i p st .rows
+    unfolding rowsRolledAt rolledBackAt laidInSpare laid
+    rows-step = split (hasEpoch i (spansAt p st))
+        (λ t. rw (has-is ∙ t, t, lt-ltb (partitionAt p st .area) areasMax (ok .areas .inside p h),
+          lt-ltb (st .state .partitions .spare) areasMax (ok .areas .spare-inside)) copied-is)
+        (λ f. rw (has-is ∙ f, f))
+
+-- ---- the partitions below n
+
+pub rolled-below : (i n : ℕ) (st : Store) → StoreOk st → n ≤ partitionsMax
+    → rolledBelow i n (asRolled st) ≡ asRolled (rolledBackBelow i n st)
+unfolding rolledBelow rolledBackBelow
+rolled-below i zero st ok h = refl
+rolled-below i (suc n) st ok h = ap (rolledAt i n) (rolled-below i n st ok (omega arith))
+    ∙ rolled-step (rolledBackBelow i n st) (rolledBack-below i n st ok (omega arith) .sound) n (omega arith) i
+
+pub rows-below : (i n : ℕ) (st : Store) → StoreOk st → n ≤ partitionsMax
+    → rowsRolledBelow i n (asRolled st) (st .rows) ≡ rolledBackBelow i n st .rows
+unfolding rowsRolledBelow rolledBackBelow
+rows-below i zero st ok h = refl
+rows-below i (suc n) st ok h =
+    rw (rolled-below i n st ok (omega arith), rows-below i n st ok (omega arith))
+      (rows-step (rolledBackBelow i n st) (rolledBack-below i n st ok (omega arith) .sound) n (omega arith) i)
