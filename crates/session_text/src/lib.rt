@@ -14,7 +14,7 @@ mod call;
 mod decimal;
 mod line;
 mod numbers;
-mod reply;
+pub mod reply;
 
 ghost use mathlib.Core.Path.{_≡_};
 ghost use mathlib.Core.Bool.{cond};
@@ -23,7 +23,7 @@ ghost use lib.Dec.{leb};
 ghost use Rattle.lists.specs.Lists.{over};
 ghost use Rattle.session_text.specs.Grammar.{parsed, numbersIn, isCall};
 ghost use Rattle.session_text.specs.Print.{printed, question};
-ghost use Rattle.session_text.specs.Lines.{sizeIn, writtenIn, lineEnd};
+ghost use Rattle.session_text.specs.Lines.{sizeIn, writtenIn, lineOf, lineEnd};
 
 // What a line is: a call, with so many rows beside it, or none.
 pub enum Parsed {
@@ -93,6 +93,14 @@ pub fn print(command: Command, answer: Answer, shown: &[u64], out: &mut [u8]) ->
         }
         Values::Shown => put_line(letter, 0, shown, out),
     }
+}
+
+// A letter, a number and values: a line that no session prints, for the cases at the edges.
+pub fn print_values(letter: u8, number: u64, values: &[u64], out: &mut [u8]) -> usize
+    ensures answer { λ r. ⌜ r ≡ sizeIn (lineOf letter number (now (values .entry))) (now (out .entry)) ⌝ }
+    ensures words { λ _. ⌜ now (out .exit) ≡ writtenIn (lineOf letter number (now (values .entry))) (now (out .entry)) ⌝ }
+{
+    put_line(letter, number, values, out)
 }
 
 // The answer to a line that is no call.

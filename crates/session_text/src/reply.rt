@@ -44,20 +44,22 @@ fn refusal_number(r: Refusal) -> u64
     }
 }
 
-// 01's number, 0 where the call was accepted, and the first value that it answers.
+// 01's number, 0 where the call was accepted, and the values that it answers.
 pub struct Reply {
     pub number: u64,
     pub value: u64,
+    pub second: u64,
 }
 
 fn yields(value: u64) -> Reply
-    ensures { λ r. ⌜ (r .number ≡ 0) × (r .value ≡ value) ⌝ }
+    ensures { λ r. ⌜ (r .number ≡ 0) × (r .value ≡ value) × (r .second ≡ 0) ⌝ }
 {
-    Reply { number: 0, value }
+    Reply { number: 0, value, second: 0 }
 }
 
-pub(crate) fn reply_of(answer: Answer) -> Reply
-    ensures { λ r. ⌜ (r .number ≡ replyOf answer .number) × (r .value ≡ replyOf answer .value) ⌝ }
+pub fn reply_of(answer: Answer) -> Reply
+    ensures { λ r. ⌜ (r .number ≡ replyOf answer .number) × (r .value ≡ replyOf answer .value)
+        × (r .second ≡ replyOf answer .second) ⌝ }
 {
     match answer {
         Answer::Created => yields(0),
@@ -67,13 +69,18 @@ pub(crate) fn reply_of(answer: Answer) -> Reply
         Answer::Closed { lce } => yields(lce),
         Answer::BegunRo { ticket } => yields(ticket),
         Answer::EndedRo { left } => yields(left as u64),
-        Answer::Scanned { rows, ones: _ } => yields(rows as u64),
+        Answer::Scanned { rows, ones } => Reply {
+            number: 0,
+            value: rows as u64,
+            second: ones as u64,
+        },
         Answer::AdvancedLse { lse } => yields(lse),
         Answer::Rewritten { rows: _ } => yields(1),
         Answer::Skipped { rows: _ } => yields(0),
         Answer::Refused(r) => Reply {
             number: refusal_number(r),
             value: 0,
+            second: 0,
         },
     }
 }
