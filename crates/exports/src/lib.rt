@@ -6,6 +6,8 @@ ghost use Rattle.rewrite.specs.Copied.{rowsCopied};
 ghost use Rattle.rewrite.specs.Kept.{rewrittenOf};
 ghost use Rattle.exports.specs.Pairs.{begunThenCommitted, purgePlan, rollPlan};
 
+mod numbered;
+
 use rewrite::Plan;
 use rewrite::Rewritten;
 use rules::Manager;
