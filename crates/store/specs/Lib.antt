@@ -1,4 +1,5 @@
 pub mod Kept
+pub mod Admit
 pub mod Write
 pub mod Purge
 pub mod Scan

@@ -1,16 +1,15 @@
 -- What purge decides by value. 01 "Lots", Purge.
 -- In order: nothing written, a rewrite, purge, what is written where, the end. Laws: proofs/Laws/Purge.antt.
 -- Assumes nothing.
-use mathlib.Core.Bool.{not, _&&_, cond}
+use mathlib.Core.Bool.{true, _&&_, cond}
 use mathlib.Core.List.{List}
 use Prim.Native.Nat.{ℕ, _+_, _*_}
 use lib.ListN.{replicate}
-use lib.Dec.{ltb, leb}
-use Rattle.rules.specs.Limits.{partitionsMax, areasMax, rowsMax, entriesMax}
+use lib.Dec.{ltb}
+use Rattle.rules.specs.Limits.{areasMax, rowsMax, entriesMax}
 use Rattle.rules.specs.Rewrite.{skips}
 use Rattle.rules.specs.declared.Answer.{Answer}
 use Rattle.rules.specs.declared.Answer.the-variants.{Rewritten, Skipped, Refused}
-use Rattle.rules.specs.declared.Refusal.the-variants.{UnknownPartition, Unsound}
 use Rattle.rules.specs.declared.Entry.{Entry}
 use Rattle.rules.specs.declared.Partition.{Partition}
 use Rattle.rules.specs.declared.State.{State}
@@ -21,8 +20,7 @@ use Rattle.rewrite.specs.Kept.{rewrittenOf}
 use Rattle.visible.specs.declared.Area.{Area}
 use Rattle.rewrite.specs.declared.Plan.{Plan}
 use Rattle.compact.specs.Areas.{baseOf, areaAt, movedTo}
-use Rattle.store.specs.Kept.{soundOf}
-use Rattle.store.specs.Write.{partitionOf}
+use Rattle.store.specs.Admit.{admitted, byAdmission}
 use Rattle.store.specs.declared.Kept.{Kept}
 use Rattle.store.specs.declared.purging.Purge.{Purge}
 
@@ -51,16 +49,17 @@ movedPurge s n p q a l =
       old = a; plan = planAt l a; new = done .area;
       entry = baseOf entriesMax spare; past = n; from = baseOf rowsMax (q .area); to = baseOf rowsMax spare }
 
--- 01's order: 5, 1; then skipped or rewritten
-unfoldable pub purgePlan : State → Table → ℕ → ℕ → ℕ → Purge
-purgePlan s t n m p =
-    let q = partitionOf p s in
+-- partition p, which is q: skipped or rewritten
+abbrev pub purgeAt : State → Table → ℕ → ℕ → Partition → Purge
+purgeAt s t n p q =
     let a = areaAt (t .at) q in
     let l = s .manager .clock .lse in
-    cond (not (soundOf s t n m)) (unwrittenPurge s n (Refused Unsound))
-    (cond (leb partitionsMax p) (unwrittenPurge s n (Refused UnknownPartition))
-    (cond (skips l (spansIn a)) (unwrittenPurge s n (Skipped (q .rows)))
-    (movedPurge s n p q a l)))
+    cond (skips l (spansIn a)) (unwrittenPurge s n (Skipped (q .rows))) (movedPurge s n p q a l)
+
+-- 01's order: 5, 1
+unfoldable pub purgePlan : State → Table → ℕ → ℕ → ℕ → Purge
+purgePlan s t n m p =
+    byAdmission (λ why. unwrittenPurge s n (Refused why)) (purgeAt s t n p) (admitted true s t n m p)
 
 -- ---- the entries that are written, and where
 

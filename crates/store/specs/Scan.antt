@@ -3,13 +3,12 @@
 -- Laws: proofs/Laws/Scan.antt.
 -- Assumes nothing.
 use mathlib.Core.Path.{_≡_}
-use mathlib.Core.Bool.{Bool, not, _&&_, cond}
+use mathlib.Core.Bool.{Bool, _&&_, cond}
 use mathlib.Core.List.{List, _++_}
 use Prim.Native.Nat.{ℕ}
 use lib.ListN.{length, take, drop, replicate}
 use lib.Dec.{ltb, leb}
 use Rattle.lists.specs.Lists.{firstOf}
-use Rattle.rules.specs.Limits.{partitionsMax}
 use Rattle.rules.specs.Manager.{opens, noRw, writersOf, hasOpen, hasReader, epochAt}
 use Rattle.rules.specs.Bitmap.{bytesFor}
 use Rattle.rules.specs.Store.{Store}
@@ -17,7 +16,7 @@ use Rattle.rules.specs.Step.{Outcome}
 use Rattle.rules.specs.declared.Answer.{Answer}
 use Rattle.rules.specs.declared.Answer.the-variants.{Scanned, Refused}
 use Rattle.rules.specs.declared.Refusal.{Refusal}
-use Rattle.rules.specs.declared.Refusal.the-variants.{UnknownPartition, NotOpen, ShortBitmap, Unsound}
+use Rattle.rules.specs.declared.Refusal.the-variants.{ShortBitmap}
 use Rattle.rules.specs.declared.Entry.{Entry}
 use Rattle.rules.specs.declared.Manager.{Manager}
 use Rattle.rules.specs.declared.Partition.{Partition}
@@ -27,8 +26,7 @@ use Rattle.visible.specs.declared.View.{View}
 use Rattle.visible.specs.View.{pageView}
 use Rattle.visible.specs.Scan.{scanned, bitmapScanned}
 use Rattle.compact.specs.Areas.{areaAt}
-use Rattle.store.specs.Kept.{soundOf}
-use Rattle.store.specs.Write.{partitionOf}
+use Rattle.store.specs.Admit.{admitted, byAdmission}
 use Rattle.store.specs.declared.scan.Look.{Look}
 
 -- a scan answers what step says and leaves these bytes; the store st that it read is step's at the end too
@@ -58,11 +56,7 @@ roView i m = pageView (epochAt i m)
 
 -- 01's order: 5, 1, 2, 3; isOpen says whether the reader is
 abbrev pub lookBy : Bool → View → State → Table → ℕ → ℕ → ℕ → ℕ → Look
-lookBy isOpen v s t n m k p =
-    cond (not (soundOf s t n m)) (refusedLook Unsound)
-    (cond (leb partitionsMax p) (refusedLook UnknownPartition)
-    (cond (not isOpen) (refusedLook NotOpen)
-    (lookAt (t .at) (partitionOf p s) v k)))
+lookBy isOpen v s t n m k p = byAdmission refusedLook (λ q. lookAt (t .at) q v k) (admitted isOpen s t n m p)
 
 unfoldable pub rwLook : State → Table → ℕ → ℕ → ℕ → ℕ → ℕ → Look
 rwLook s t n m k i p = lookBy (hasOpen i (s .manager)) (rwView i (s .manager)) s t n m k p

@@ -11,6 +11,7 @@ use rules::Answer;
 use rules::Entry;
 use rules::State;
 
+mod admit;
 mod books;
 mod limits;
 mod purging;

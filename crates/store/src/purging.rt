@@ -2,19 +2,18 @@
 ghost use mathlib.Core.Path.{_≡_};
 ghost use Rattle.lent.specs.Shapes.{saved};
 ghost use Rattle.rewrite.specs.Copied.{rowsCopied};
-ghost use Rattle.store.specs.Purge.{unwrittenPurge, movedPurge, purgePlan, placeOf, newOf, donePurge};
+ghost use Rattle.store.specs.Purge.{unwrittenPurge, movedPurge, purgeAt, purgePlan, placeOf, newOf, donePurge};
 
+use crate::admit::Admitted;
+use crate::admit::admit;
 use crate::limits::ENTRIES;
 use crate::limits::ENTRIES_LENT;
-use crate::limits::PARTITIONS;
-use crate::sound;
 use crate::Kept;
 use lent::Table;
 use rewrite::Plan;
 use rules::Answer;
 use rules::Entry;
 use rules::Partition;
-use rules::Refusal;
 use rules::State;
 use visible::Area;
 
@@ -84,25 +83,27 @@ fn moved(state: State, n: usize, p: usize, q: Partition, a: Area, l: u64) -> Pur
     }
 }
 
-// A purge of partition p at LSE.
-pub fn purge_core(state: State, t: Table, n: usize, m: usize, p: u64) -> Purge
-    ensures { λ r. ⌜ r ≡ purgePlan state t n m p ⌝ }
+// Partition p, which is q, on a sound store.
+fn purge_at(state: State, t: Table, n: usize, p: usize, q: Partition) -> Purge
+    ensures { λ r. ⌜ r ≡ purgeAt state t n p q ⌝ }
 {
-    if !sound::is_sound(state, t, n, m) {
-        return unwritten(state, n, Answer::Refused(Refusal::Unsound));
-    }
-    if PARTITIONS <= p {
-        return unwritten(state, n, Answer::Refused(Refusal::UnknownPartition));
-    }
-    let partitions = state.partitions;
-    let place = p as usize;
-    let q = partitions.at[place];
     let a = compact::areas::area_of(t, q);
     let l = state.manager.clock.lse;
     if rewrite::tests::skips(a, l) {
         return unwritten(state, n, Answer::Skipped { rows: q.rows });
     }
-    moved(state, n, place, q, a, l)
+    moved(state, n, p, q, a, l)
+}
+
+// A purge of partition p at LSE.
+pub fn purge_core(state: State, t: Table, n: usize, m: usize, p: u64) -> Purge
+    ensures { λ r. ⌜ r ≡ purgePlan state t n m p ⌝ }
+{
+    let admitted = admit(true, state, t, n, m, p);
+    match admitted {
+        Admitted::Not(why) => unwritten(state, n, Answer::Refused(why)),
+        Admitted::To(q) => purge_at(state, t, n, p as usize, q),
+    }
 }
 
 // The new entries, and where each goes, by calls: the walk of put_purge then knows no field of a purge.

@@ -2,9 +2,9 @@
 ghost use mathlib.Core.Path.{_≡_};
 ghost use Rattle.store.specs.Scan.{refusedLook, lookAt, rwLook, roLook, copied};
 
+use crate::admit::Admitted;
+use crate::admit::admit;
 use crate::limits::BITMAP;
-use crate::limits::PARTITIONS;
-use crate::sound;
 use lent::Table;
 use rules::Answer;
 use rules::Partition;
@@ -50,44 +50,34 @@ fn scan_partition(t: Table, q: Partition, v: View, k: usize) -> Look
 pub fn rw_core(state: State, t: Table, n: usize, m: usize, k: usize, i: u64, p: u64) -> Look
     ensures { λ r. ⌜ r ≡ rwLook state t n m k i p ⌝ }
 {
-    if !sound::is_sound(state, t, n, m) {
-        return refused(Refusal::Unsound);
-    }
-    if PARTITIONS <= p {
-        return refused(Refusal::UnknownPartition);
-    }
     let manager = state.manager;
-    if !txn_find::has_open(manager, i) {
-        return refused(Refusal::NotOpen);
+    let open = txn_find::has_open(manager, i);
+    let admitted = admit(open, state, t, n, m, p);
+    match admitted {
+        Admitted::Not(why) => refused(why),
+        Admitted::To(q) => {
+            let deps = txn_find::deps_at(manager, i);
+            let v = View { epoch: i, rw: 1, deps: deps };
+            scan_partition(t, q, v, k)
+        }
     }
-    let deps = txn_find::deps_at(manager, i);
-    let v = View { epoch: i, rw: 1, deps: deps };
-    let partitions = state.partitions;
-    let place = p as usize;
-    let q = partitions.at[place];
-    scan_partition(t, q, v, k)
 }
 
 // The read-only transaction (01: page) of ticket i scans partition p.
 pub fn ro_core(state: State, t: Table, n: usize, m: usize, k: usize, i: u64, p: u64) -> Look
     ensures { λ r. ⌜ r ≡ roLook state t n m k i p ⌝ }
 {
-    if !sound::is_sound(state, t, n, m) {
-        return refused(Refusal::Unsound);
-    }
-    if PARTITIONS <= p {
-        return refused(Refusal::UnknownPartition);
-    }
     let manager = state.manager;
-    if !txn_find::has_reader(manager, i) {
-        return refused(Refusal::NotOpen);
+    let open = txn_find::has_reader(manager, i);
+    let admitted = admit(open, state, t, n, m, p);
+    match admitted {
+        Admitted::Not(why) => refused(why),
+        Admitted::To(q) => {
+            let epoch = txn_find::epoch_at(manager, i);
+            let v = visible::page(epoch);
+            scan_partition(t, q, v, k)
+        }
     }
-    let epoch = txn_find::epoch_at(manager, i);
-    let v = visible::page(epoch);
-    let partitions = state.partitions;
-    let place = p as usize;
-    let q = partitions.at[place];
-    scan_partition(t, q, v, k)
 }
 
 // The first count bytes, where there are so many and so many are lent.

@@ -3,10 +3,10 @@ ghost use mathlib.Core.Path.{_≡_};
 ghost use lib.ListN.{set};
 ghost use Rattle.rules.specs.Manager.{hasOpen};
 ghost use Rattle.partition.specs.Rows.{putRows};
-ghost use Rattle.store.specs.Write.{refusedWrite, plannedWrite, appendWrite, clearWrite, doneWrite};
+ghost use Rattle.store.specs.Write.{refusedWrite, plannedWrite, appendAt, appendWrite, clearAt, clearWrite, doneWrite};
 
-use crate::limits::PARTITIONS;
-use crate::sound;
+use crate::admit::Admitted;
+use crate::admit::admit;
 use crate::Kept;
 use lent::Table;
 use partition::Plan;
@@ -74,22 +74,10 @@ fn is_open(state: State, i: u64) -> bool
     txn_find::has_open(manager, i)
 }
 
-// k rows by transaction i to partition p.
-pub fn append_core(state: State, t: Table, n: usize, m: usize, k: usize, i: u64, p: u64) -> Write
-    ensures { λ r. ⌜ r ≡ appendWrite state t n m k i p ⌝ }
+// k rows by transaction i to partition p, which is q, on a sound store.
+fn append_at(state: State, t: Table, n: usize, m: usize, k: usize, i: u64, p: usize, q: Partition) -> Write
+    ensures { λ r. ⌜ r ≡ appendAt state t n m k i p q ⌝ }
 {
-    if !sound::is_sound(state, t, n, m) {
-        return refused(state, n, m, Refusal::Unsound);
-    }
-    if PARTITIONS <= p {
-        return refused(state, n, m, Refusal::UnknownPartition);
-    }
-    if !is_open(state, i) {
-        return refused(state, n, m, Refusal::NotOpen);
-    }
-    let partitions = state.partitions;
-    let place = p as usize;
-    let q = partitions.at[place];
     let plan = partition::append::append_plan(t, q, i, k);
     if plan.full.rows {
         return refused(state, n, m, Refusal::RowsFull);
@@ -98,31 +86,43 @@ pub fn append_core(state: State, t: Table, n: usize, m: usize, k: usize, i: u64,
         return refused(state, n, m, Refusal::EntriesFull);
     }
     let answer = Answer::Appended { rows: plan.rows };
-    planned(state, place, q, plan, answer)
+    planned(state, p, q, plan, answer)
+}
+
+// k rows by transaction i to partition p.
+pub fn append_core(state: State, t: Table, n: usize, m: usize, k: usize, i: u64, p: u64) -> Write
+    ensures { λ r. ⌜ r ≡ appendWrite state t n m k i p ⌝ }
+{
+    let open = is_open(state, i);
+    let admitted = admit(open, state, t, n, m, p);
+    match admitted {
+        Admitted::Not(why) => refused(state, n, m, why),
+        Admitted::To(q) => append_at(state, t, n, m, k, i, p as usize, q),
+    }
+}
+
+// A clearing by transaction i of partition p, which is q, on a sound store.
+fn clear_at(state: State, n: usize, m: usize, i: u64, p: usize, q: Partition) -> Write
+    ensures { λ r. ⌜ r ≡ clearAt state n m i p q ⌝ }
+{
+    let plan = partition::append::clear_plan(q, i);
+    if plan.full.entries {
+        return refused(state, n, m, Refusal::EntriesFull);
+    }
+    let answer = Answer::Cleared { entries: plan.entries };
+    planned(state, p, q, plan, answer)
 }
 
 // A clearing by transaction i of partition p.
 pub fn clear_core(state: State, t: Table, n: usize, m: usize, i: u64, p: u64) -> Write
     ensures { λ r. ⌜ r ≡ clearWrite state t n m i p ⌝ }
 {
-    if !sound::is_sound(state, t, n, m) {
-        return refused(state, n, m, Refusal::Unsound);
+    let open = is_open(state, i);
+    let admitted = admit(open, state, t, n, m, p);
+    match admitted {
+        Admitted::Not(why) => refused(state, n, m, why),
+        Admitted::To(q) => clear_at(state, n, m, i, p as usize, q),
     }
-    if PARTITIONS <= p {
-        return refused(state, n, m, Refusal::UnknownPartition);
-    }
-    if !is_open(state, i) {
-        return refused(state, n, m, Refusal::NotOpen);
-    }
-    let partitions = state.partitions;
-    let place = p as usize;
-    let q = partitions.at[place];
-    let plan = partition::append::clear_plan(q, i);
-    if plan.full.entries {
-        return refused(state, n, m, Refusal::EntriesFull);
-    }
-    let answer = Answer::Cleared { entries: plan.entries };
-    planned(state, place, q, plan, answer)
 }
 
 // The entry and its index, each by a call: the walk of put_write then knows no field of a write.

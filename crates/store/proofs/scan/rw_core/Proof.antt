@@ -1,83 +1,44 @@
--- `store::scan::rw_core` meets its contract: the refusals in 01's order, then the scan.
+-- `store::scan::rw_core` meets its contract: refused, or a scan of the partition that it is admitted to.
 -- Assumes nothing.
-use mathlib.Core.Path.{_≡_, sym, _∙_}
-use mathlib.Core.Bool.{true, false}
-use lib.Dec.{leb}
-use borrow.Author.Tests.{not-true, not-false, le-leb, lt-leb}
 use borrow.Author.Needs.{needs}
-use Rattle.rules.specs.Limits.{partitionsMax}
-use Rattle.rules.specs.Manager.{hasOpen}
-use Rattle.store.specs.Kept.{soundOf}
 use Rattle.store.specs.Scan.{rwLook}
 use Rattle.store.proofs.scan.rw_core.Statement.{statement}
 use Rattle.store.proofs.scan.rw_core.Tie as tie
 
--- what each refusal that was passed says
-sound : (c : tie.Else1) → let a = c .before .before .args in soundOf (a .state) (a .t) (a .n) (a .m) ≡ true
-sound c = sym (c .before .is-sound .ensures) ∙ not-false _ (c .if1 .left)
+has-open-requires : tie.Need-has-open-requires
+has-open-requires c κs = search needs
 
-known : (c : tie.Else2) → leb partitionsMax (c .before .before .before .args .p) ≡ false
-known c = lt-leb 8 _ (c .if2 .left)
+admit-requires : tie.Need-admit-requires
+admit-requires c κs = search needs
 
-pending : (c : tie.Else3) → let a = c .before .before .before .before .before .before .args in
-    hasOpen (a .i) (a .state .manager) ≡ true
-pending c = sym (c .before .has-open .ensures) ∙ not-false _ (c .if3 .left)
-
-is-sound-requires : tie.Need-is-sound-requires
-is-sound-requires c κs = search needs
+enum-known-admitted : tie.Need-enum-known-admitted
+enum-known-admitted c = search needs
 
 refused-requires : tie.Need-refused-requires
 refused-requires c κs = search needs
 
-returns : tie.Need-returns
-unfolding rwLook
-returns c = c .refused .ensures
-    ∙ rw (sym (c .before .before .is-sound .ensures) ∙ not-true _ (c .before .if1 .taken))
-
-refused-requires-2 : tie.Need-refused-requires-2
-refused-requires-2 c κs = search needs
-
-returns-2 : tie.Need-returns-2
-unfolding rwLook
-returns-2 c = c .refused2 .ensures
-    ∙ rw (sound (c .before .before), le-leb 8 (c .before .before .before .before .args .p) (c .before .if2 .taken))
-
-has-open-requires : tie.Need-has-open-requires
-has-open-requires c κs = search needs
-
-refused-requires-3 : tie.Need-refused-requires-3
-refused-requires-3 c κs = search needs
-
-returns-3 : tie.Need-returns-3
-unfolding rwLook
-returns-3 c =
-    let o = c .before .before in
-    let e = o .before .before in
-    c .refused3 .ensures
-    ∙ rw (sound (e .before), known e, sym (o .has-open .ensures) ∙ not-true _ (c .before .if3 .taken))
+enum-known-admitted-2 : tie.Need-enum-known-admitted-2
+enum-known-admitted-2 c = search needs
 
 deps-at-requires : tie.Need-deps-at-requires
 deps-at-requires c κs = search needs
 
-mul-q : tie.Need-mul-q
-mul-q c = search needs
-
-element-copy-out-q : tie.Need-element-copy-out-q
-element-copy-out-q c = search needs
-
 scan-partition-requires : tie.Need-scan-partition-requires
 scan-partition-requires c κs = search needs
 
-returns-4 : tie.Need-returns-4
+returns : tie.Need-returns
 unfolding rwLook
-returns-4 c =
-    let d = c .before .before .before in
-    let o = d .before in
-    let e = o .before .before .before in
-    c .scan-partition .ensures ∙ rw (sound (e .before), known e, pending o, d .deps-at .ensures)
+returns c = let k = c .before .before in let a = k .before .before in
+    rw (← a .before .has-open .ensures, ← a .admit .ensures, k .admitted .given .1) (c .refused .ensures)
+
+returns-2 : tie.Need-returns-2
+unfolding rwLook
+returns-2 c = let d = c .before in let k = d .before .before in let a = k .before .before in
+    rw (← a .before .has-open .ensures, ← a .admit .ensures, k .admitted2 .given .1, ← d .deps-at .ensures)
+    (c .scan-partition .ensures)
 
 pub rw-core-spec : {M : Type 1} → statement M
 rw-core-spec =
     tie.close
-    (tie.spec is-sound-requires refused-requires returns refused-requires-2 returns-2 has-open-requires
-      refused-requires-3 returns-3 deps-at-requires mul-q element-copy-out-q scan-partition-requires returns-4)
+    (tie.spec has-open-requires admit-requires enum-known-admitted refused-requires enum-known-admitted-2 deps-at-requires
+      scan-partition-requires returns returns-2)

@@ -1,0 +1,27 @@
+-- `store::write::clear_at` meets its contract: 9, then the plan.
+-- Assumes nothing.
+use mathlib.Core.Path.{sym, ap, _∙_}
+use borrow.Author.Needs.{needs}
+use Rattle.store.proofs.write.clear_at.Statement.{statement}
+use Rattle.store.proofs.write.clear_at.Tie as tie
+
+clear-plan-requires : tie.Need-clear-plan-requires
+clear-plan-requires c κs = search needs
+
+refused-requires : tie.Need-refused-requires
+refused-requires c κs = search needs
+
+returns : tie.Need-returns
+returns c = let l = c .before .before in
+    c .refused .ensures ∙ rw (sym (ap (λ x. x .full .entries) (l .clear-plan .ensures)) ∙ c .before .if1 .taken)
+
+planned-requires : tie.Need-planned-requires
+planned-requires c κs = search needs
+
+returns-2 : tie.Need-returns-2
+returns-2 c = let r = c .before in let l = r .before in
+    c .planned .ensures
+    ∙ rw (sym (ap (λ x. x .full .entries) (l .clear-plan .ensures)) ∙ r .if1 .left, l .clear-plan .ensures)
+
+pub clear-at-spec : {M : Type 1} → statement M
+clear-at-spec = tie.close (tie.spec clear-plan-requires refused-requires returns planned-requires returns-2)
