@@ -36,4 +36,5 @@ returns-2 c = let k = c .before .before in let a = k .before .before in
 pub append-core-spec : {M : Type 1} → statement M
 append-core-spec =
     tie.close
-    (tie.spec is-open-requires admit-requires enum-known-admitted refused-requires enum-known-admitted-2 append-at-requires returns returns-2)
+    (tie.spec is-open-requires admit-requires enum-known-admitted refused-requires enum-known-admitted-2
+      append-at-requires returns returns-2)

@@ -36,4 +36,5 @@ returns-2 c = let k = c .before .before in let a = k .before .before in
 pub clear-core-spec : {M : Type 1} → statement M
 clear-core-spec =
     tie.close
-    (tie.spec is-open-requires admit-requires enum-known-admitted refused-requires enum-known-admitted-2 clear-at-requires returns returns-2)
+    (tie.spec is-open-requires admit-requires enum-known-admitted refused-requires enum-known-admitted-2
+      clear-at-requires returns returns-2)
