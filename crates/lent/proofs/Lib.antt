@@ -1,7 +1,10 @@
 pub mod Again
 pub mod Calls
 pub mod Change
+pub mod Lend
 pub mod Lists
+pub mod Loans
+pub mod Locals
 pub mod Look0
 pub mod Look1
 pub mod Picks

@@ -1,0 +1,48 @@
+// Every call by one function: a command in, the public call that it names, the answer out. What it leaves is rules' step.
+ghost use mathlib.Core.Path.{_≡_};
+ghost use Rattle.rules.specs.Step.{step, callOf};
+ghost use Rattle.store.specs.Kept.{storeOf};
+ghost use Rattle.dispatch.specs.Dispatch.{Did, keptIn};
+
+use lent::Table;
+use rules::Answer;
+use rules::Command;
+use rules::Entry;
+use rules::Reader;
+use rules::State;
+use store::Kept;
+
+// What a call answers, the books and the entries after it.
+pub struct Turned {
+    pub answer: Answer,
+    pub state: State,
+    pub table: Table,
+}
+
+// The batch is that of an append, and the bitmap that of a scan; other calls leave both alone.
+pub fn dispatch(state: State, entries: &mut [Entry], rows: &mut [u64], batch: &[u64], bitmap: &mut [u8], command: Command) -> Kept
+    ensures { λ r. ⌜ Did command (step (callOf command (now (batch .entry)) (now (bitmap .entry))) (storeOf state (now (rows .entry)) (now (entries .entry)))) r (now (rows .exit)) (now (entries .exit)) (now (bitmap .entry)) (now (bitmap .exit)) ⌝ }
+{
+    match command {
+        Command::Create { start } => store::create(state, entries, rows, start),
+        Command::Begin => store::begin(state, entries, rows),
+        Command::Append { txn, partition } => store::append(state, entries, rows, batch, txn, partition),
+        Command::Clear { txn, partition } => store::clear(state, entries, rows, txn, partition),
+        Command::Commit { txn } => store::commit(state, entries, rows, txn),
+        Command::RollBack { txn } => store::roll_back(state, entries, rows, txn),
+        Command::BeginRo { epoch } => store::begin_ro(state, entries, rows, epoch),
+        Command::EndRo { ticket } => store::end_ro(state, entries, rows, ticket),
+        Command::Scan { reader, partition } => match reader {
+            Reader::Rw(txn) => Kept {
+                answer: store::scan_rw(state, entries, rows, bitmap, txn, partition),
+                state,
+            },
+            Reader::Ro(ticket) => Kept {
+                answer: store::scan_ro(state, entries, rows, bitmap, ticket, partition),
+                state,
+            },
+        },
+        Command::AdvanceLse { target } => store::advance_lse(state, entries, rows, target),
+        Command::Purge { partition } => store::purge(state, entries, rows, partition),
+    }
+}
