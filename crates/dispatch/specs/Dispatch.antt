@@ -1,5 +1,5 @@
 -- What the dispatcher leaves, beside rules' step. 01 "Refusals": a call that is lent no bitmap writes none.
--- In order: bitmapLeft, Did, keptIn.
+-- In order: bitmapLeft, Did, keptIn, turnedOf.
 -- Assumes nothing.
 use mathlib.Core.Path.{_≡_}
 use mathlib.Core.List.{List}
@@ -34,3 +34,6 @@ Did c out r rows entries lent bytes = Left out r rows entries × (bytes ≡ bitm
 -- the answer and the books of a call whose entries are kept by value
 abbrev pub keptIn : Turned → Kept
 keptIn t = record { answer = t .answer; state = t .state }
+
+abbrev pub turnedOf : Kept → List Entry → Turned
+turnedOf k entries = record { answer = k .answer; state = k .state; table = record { at = entries } }

@@ -2,7 +2,7 @@
 ghost use mathlib.Core.Path.{_≡_};
 ghost use Rattle.rules.specs.Step.{step, callOf};
 ghost use Rattle.store.specs.Kept.{storeOf};
-ghost use Rattle.dispatch.specs.Dispatch.{Did, keptIn};
+ghost use Rattle.dispatch.specs.Dispatch.{Did, keptIn, turnedOf};
 
 use lent::Table;
 use rules::Answer;
@@ -45,4 +45,32 @@ pub fn dispatch(state: State, entries: &mut [Entry], rows: &mut [u64], batch: &[
         Command::AdvanceLse { target } => store::advance_lse(state, entries, rows, target),
         Command::Purge { partition } => store::purge(state, entries, rows, partition),
     }
+}
+
+fn entries_in(table: Table) -> [Entry; 576]
+    ensures { λ r. ⌜ r ≡ table .at ⌝ }
+{
+    table.at
+}
+
+fn turned_of(kept: Kept, entries: [Entry; 576]) -> Turned
+    ensures { λ r. ⌜ r ≡ turnedOf kept entries ⌝ }
+{
+    let table = Table { at: entries };
+    let state = kept.state;
+    let answer = kept.answer;
+    Turned {
+        answer,
+        state,
+        table,
+    }
+}
+
+// The same with the entries by value, for callers that keep them so.
+pub fn turn(state: State, table: Table, rows: &mut [u64], batch: &[u64], bitmap: &mut [u8], command: Command) -> Turned
+    ensures { λ r. ⌜ Did command (step (callOf command (now (batch .entry)) (now (bitmap .entry))) (storeOf state (now (rows .entry)) (table .at))) (keptIn r) (now (rows .exit)) (r .table .at) (now (bitmap .entry)) (now (bitmap .exit)) ⌝ }
+{
+    let mut entries = entries_in(table);
+    let kept = dispatch(state, &mut entries, rows, batch, bitmap, command);
+    turned_of(kept, entries)
 }

@@ -1,8 +1,11 @@
 -- A function's locals as one entry of the context, so that a walk names only those which a statement uses.
---     envOf        the locals ls in the blocks bs.        typeOf       local i's type.        spot-of      where local i lies
---     Pool E m     all of them: what frees each, and its room, but for those that the mask m has as false, which are out
+--     envOf        the locals ls in the blocks bs.        typeOf       local i's type
+--     Lies, Spots, AllSpots    where a local lies, several, and all.        spot-of      they lie in envOf
+--     Pool E m     all of them: what frees each, and its room, but for those that the mask m has as false, which
+-- are out
 --     allocs-all   a function's locals are allocated, and make the pool.        frees-all    the pool frees them
---     takes, takes-all     the room of a local, or of several, is taken out of the pool.        puts, puts-all       it goes back
+--     takes, takes-all     the room of a local, or of several, is taken out of the pool.        puts, puts-all
+-- it goes back
 --     spot         a place of local i.        returns-at   a function returns
 -- The pool is at the head of the context in each, and what is taken out stands behind it.
 -- Assumes `Given`.
@@ -20,8 +23,8 @@ use base.Logic.{SProp, ent, sep, via, fst∗, never, neverE, guardI}
 use base.Fml.{Fml, ftrue, ffalse, fsep, froom, fdies}
 use prog.Wp.{Heap, Env, Spot, Calls, Loops, noLocal}
 use ghost.Atoms.{Atoms, sem}
-use types.Kit.{Given, Item, ‵, given, _⊛_, ⋆, pop, Goal, runs, atRet, allocs, frees, prop, Seq, Step, step, _$_, _∵_, !, qed, by, learn}
-use types.Kit.{move, drop, split, fsplit, fjoin, use1, use2, done}
+use types.Kit.{Given, Item, ‵, given, _⊛_, ⋆, pop, Goal, runs, atRet, allocs, frees, prop, Seq, Step, step, _$_}
+use types.Kit.{_∵_, !, qed, by, learn, move, drop, split, fsplit, fjoin, use1, use2, done}
 use types.Run.{Reads, Finds, Walks, from, returns, alloc1, alloc0, free1, free0}
 use denote.Steps.{nothing}
 
@@ -85,9 +88,11 @@ module _ {M : Type 1} (𝓤 : URA M) (H : Heap 𝓤) (A : Atoms 𝓤) (W : Given
   unfolding pool
   out i E [] h = absurd h
   out i [] (y ∷ m) h = neverE 𝓤 _
-  out zero (e ∷ E) (true ∷ m) h = qed W (‵ (pool (e ∷ E) (true ∷ m)) ∷ []) ∵ fsplit ! $ nothing ! $ move ! (0 ∷ 2 ∷ []) $ fjoin ! $ done !
+  out zero (e ∷ E) (true ∷ m) h = qed W (‵ (pool (e ∷ E) (true ∷ m)) ∷ []) ∵ fsplit ! $ nothing ! $ move ! (0 ∷ 2 ∷
+      []) $ fjoin ! $ done !
   out zero (e ∷ E) (false ∷ m) h = absurd h
-  out (suc i) (e ∷ E) (y ∷ m) h = qed W (‵ (pool (e ∷ E) (y ∷ m)) ∷ []) ∵ fsplit ! $ move ! (1 ∷ []) $ fsplit ! $ move ! (1 ∷ []) $
+  out (suc i) (e ∷ E) (y ∷ m) h = qed W (‵ (pool (e ∷ E) (y ∷ m)) ∷ []) ∵ fsplit ! $ move ! (1 ∷ []) $ fsplit ! $
+      move ! (1 ∷ []) $
       use1 W (‵ (pool E (marked false i m)) ⊛ ‵ (Room (at E i))) (out i E m h) $ split ! $
       move ! (2 ∷ 0 ∷ []) $ fjoin ! $ move ! (2 ∷ 0 ∷ []) $ fjoin ! $ done !
 
@@ -97,11 +102,14 @@ module _ {M : Type 1} (𝓤 : URA M) (H : Heap 𝓤) (A : Atoms 𝓤) (W : Given
   into i E [] h = absurd h
   into i [] (y ∷ m) h = via 𝓤 (never 𝓤) (fst∗ 𝓤 (never 𝓤) (sem 𝓤 H A (Room (at [] i)))) (neverE 𝓤 _)
   into zero (e ∷ E) (true ∷ m) h = absurd h
-  into zero (e ∷ E) (false ∷ m) h = qed W (‵ (pool (e ∷ E) (false ∷ m)) ∷ ‵ (Room e) ∷ []) ∵ fsplit ! $ drop ! $ move ! (1 ∷ 0 ∷ []) $
+  into zero (e ∷ E) (false ∷ m) h = qed W (‵ (pool (e ∷ E) (false ∷ m)) ∷ ‵ (Room e) ∷ []) ∵ fsplit ! $ drop ! $
+      move ! (1 ∷ 0 ∷ []) $
       fjoin ! $ done !
-  into (suc i) (e ∷ E) (y ∷ m) h = qed W (‵ (pool (e ∷ E) (y ∷ m)) ∷ ‵ (Room (at E i)) ∷ []) ∵ fsplit ! $ move ! (1 ∷ []) $ fsplit ! $
+  into (suc i) (e ∷ E) (y ∷ m) h = qed W (‵ (pool (e ∷ E) (y ∷ m)) ∷ ‵ (Room (at E i)) ∷ []) ∵ fsplit ! $ move ! (1
+      ∷ []) $ fsplit ! $
       -- [what frees it; the others; its room; the room]
-      move ! (1 ∷ 3 ∷ []) $ use2 W (‵ (pool E (marked true i m))) (into i E m h) $ move ! (1 ∷ 0 ∷ []) $ fjoin ! $ move ! (1 ∷ 0 ∷ []) $
+      move ! (1 ∷ 3 ∷ []) $ use2 W (‵ (pool E (marked true i m))) (into i E m h) $ move ! (1 ∷ 0 ∷ []) $ fjoin ! $
+          move ! (1 ∷ 0 ∷ []) $
       fjoin ! $ done !
 
 -- it names E and m, so that antt reads them off a context
@@ -111,7 +119,8 @@ pub data Masked (E : List (Ty × ℕ)) (m : List Bool) : Type 0 where
 abbrev pub Pool : {M : Type 1} {𝓤 : URA M} → List (Ty × ℕ) → List Bool → Item 𝓤
 Pool E m = given (Masked E m) (‵ (pool E m))
 
-module _ {M : Type 1} {𝓤 : URA M} {H : Heap 𝓤} {A : Atoms 𝓤} {K : Type 0} {W : Given 𝓤 H A} {Γ : List (Item 𝓤)} {G : Goal
+module _ {M : Type 1} {𝓤 : URA M} {H : Heap 𝓤} {A : Atoms 𝓤} {K : Type 0} {W : Given 𝓤 H A} {Γ : List (Item 𝓤)} {G :
+    Goal
     𝓤 H} where
   unveil : K → {E : List (Ty × ℕ)} {m : List Bool} → Step K W (‵ (pool E m) ∷ Γ) G (Pool E m ∷ Γ) G
   unveil t = step (λ s. learn t (λ _. s))
@@ -121,7 +130,8 @@ module _ {M : Type 1} {𝓤 : URA M} {H : Heap 𝓤} {A : Atoms 𝓤} {K : Type 
 
 module _ {M : Type 1} {𝓤 : URA M} {H : Heap 𝓤} {A : Atoms 𝓤} {K : Type 0} {W : Given 𝓤 H A} where
   allocs-one : K → (Γ : List (Item 𝓤)) (ls : List Local) (Kt : Env 𝓤 H → Goal 𝓤 H)
-      → ((bs : Blocks ls) → Seq K W (‵ (pool (envOf ls bs) (allTrue ls)) ∷ Γ) (Kt (envOf ls bs))) → Seq K W Γ (allocs ls Kt)
+      → ((bs : Blocks ls) → Seq K W (‵ (pool (envOf ls bs) (allTrue ls)) ∷ Γ) (Kt (envOf ls bs))) → Seq K W Γ
+          (allocs ls Kt)
   unfolding pool
   allocs-one t Γ [] Kt k = alloc0 t $ nothing t $ k tt
   allocs-one t Γ (local τ h ∷ ls) Kt k = alloc1 t (λ b. allocs-one t _ ls (λ E. Kt ((τ, b) ∷ E)) (λ bs.
@@ -134,27 +144,32 @@ module _ {M : Type 1} {𝓤 : URA M} {H : Heap 𝓤} {A : Atoms 𝓤} {K : Type 
   frees-one t Γ [] (x ∷ m) g h = step (λ s. drop t $ free0 t $ s)
   frees-one t Γ (e ∷ E) [] g h = step (λ s. by t (via 𝓤 (sep 𝓤 (never 𝓤) (⋆ 𝓤 H A Γ)) (pop 𝓤 H A (‵ ffalse)
       Γ) (via 𝓤 (never 𝓤) (fst∗ 𝓤 (never 𝓤) (⋆ 𝓤 H A Γ)) (neverE 𝓤 _))))
-  frees-one t Γ (e ∷ E) (true ∷ m) g h = step (λ s. fsplit t $ move t (1 ∷ []) $ fsplit t $ move t (2 ∷ 0 ∷ []) $ free1 t $
+  frees-one t Γ (e ∷ E) (true ∷ m) g h = step (λ s. fsplit t $ move t (1 ∷ []) $ fsplit t $ move t (2 ∷ 0 ∷ []) $
+      free1 t $
       frees-one t Γ E m g h $ s)
   frees-one t Γ (e ∷ E) (false ∷ m) g h = absurd h
 
   pub allocs-all : K → {Γ : List (Item 𝓤)} {ls : List Local} {Kt : Env 𝓤 H → Goal 𝓤 H}
-      → ((bs : Blocks ls) → Seq K W (Pool (envOf ls bs) (allTrue ls) ∷ Γ) (Kt (envOf ls bs))) → Seq K W Γ (allocs ls Kt)
+      → ((bs : Blocks ls) → Seq K W (Pool (envOf ls bs) (allTrue ls) ∷ Γ) (Kt (envOf ls bs))) → Seq K W Γ (allocs ls
+          Kt)
   allocs-all t {Γ} {ls} {Kt} k = allocs-one t Γ ls Kt (λ bs. veil t (envOf ls bs) (allTrue ls) $ k bs)
 
   pub frees-all : K → {Γ : List (Item 𝓤)} {E : Env 𝓤 H} {m : List Bool} {g : Goal 𝓤 H} → T (full m)
       → Step K W Γ g (Pool E m ∷ Γ) (frees E g)
   frees-all t {Γ} {E} {m} {g} h = step (λ s. unveil t $ frees-one t Γ E m g h $ s)
 
-module _ {M : Type 1} {𝓤 : URA M} {H : Heap 𝓤} {A : Atoms 𝓤} {K : Type 0} {W : Given 𝓤 H A} {Γ : List (Item 𝓤)} {E : Env
+module _ {M : Type 1} {𝓤 : URA M} {H : Heap 𝓤} {A : Atoms 𝓤} {K : Type 0} {W : Given 𝓤 H A} {Γ : List (Item 𝓤)} {E :
+    Env
     𝓤 H} where
   pub spot : K → {i : ℕ} {e : Ty × ℕ} {st : List PStep} {sp : Spot 𝓤 H} → getD E i (noLocal 𝓤 H) ≡ e
       → Walks K W Γ E (e .0, e .1, zero) st sp → Finds K W Γ E (place i st) sp
   spot t {i} {e} {st} {sp} eq w = from t (subst (λ (d : Ty × ℕ). Walks K W Γ E (d .0, d .1, zero) st sp) (sym eq) w)
 
-module _ {M : Type 1} {𝓤 : URA M} {H : Heap 𝓤} {A : Atoms 𝓤} {K : Type 0} {W : Given 𝓤 H A} {Γ : List (Item 𝓤)} {E : Env
+module _ {M : Type 1} {𝓤 : URA M} {H : Heap 𝓤} {A : Atoms 𝓤} {K : Type 0} {W : Given 𝓤 H A} {Γ : List (Item 𝓤)} {E :
+    Env
     𝓤 H} where
-  pub returns-at : K → {C : Calls 𝓤 H} {Λ : Loops 𝓤 H} {Kf : Val → SProp 𝓤} {e : Ty × ℕ} {v : Val} → getD E zero (noLocal 𝓤 H) ≡ e
+  pub returns-at : K → {C : Calls 𝓤 H} {Λ : Loops 𝓤 H} {Kf : Val → SProp 𝓤} {e : Ty × ℕ} {v : Val} → getD E zero
+      (noLocal 𝓤 H) ≡ e
       → Reads K W Γ (e .0) (e .1) zero v → Step K W Γ (frees E (prop (Kf v))) Γ (runs C Λ E return (atRet E Kf))
   returns-at t {v = v} eq r = returns t (subst (λ (d : Ty × ℕ). Reads K W Γ (d .0) (d .1) zero v) (sym eq) r)
 
@@ -162,13 +177,15 @@ module _ {M : Type 1} {𝓤 : URA M} {H : Heap 𝓤} {A : Atoms 𝓤} {K : Type 
     pub takes : K → (i : ℕ) {e : Ty × ℕ} → getD E i (noLocal 𝓤 H) ≡ e → T (has true i m)
         → Step K W (Pool E (marked false i m) ∷ ‵ (froom (e .0) (e .1) zero) ∷ Γ) G (Pool E m ∷ Γ) G
     takes t i {e} eq h = step (λ s. unveil t $ use1 W (‵ (pool E (marked false i m)) ⊛ ‵ (froom (e .0) (e .1) zero))
-        (subst (λ (d : Ty × ℕ). ent 𝓤 (sem 𝓤 H A (pool E m)) (sep 𝓤 (sem 𝓤 H A (pool E (marked false i m))) (sem 𝓤 H A (froom
+        (subst (λ (d : Ty × ℕ). ent 𝓤 (sem 𝓤 H A (pool E m)) (sep 𝓤 (sem 𝓤 H A (pool E (marked false i m))) (sem 𝓤 H
+            A (froom
             (d .0) (d .1) zero)))) eq (out 𝓤 H A W i E m h)) $ split t $ veil t E (marked false i m) $ s)
 
     pub puts : K → (i : ℕ) {e : Ty × ℕ} → getD E i (noLocal 𝓤 H) ≡ e → T (has false i m)
         → Step K W (Pool E (marked true i m) ∷ Γ) G (Pool E m ∷ ‵ (froom (e .0) (e .1) zero) ∷ Γ) G
     puts t i {e} eq h = step (λ s. unveil t $ use2 W (‵ (pool E (marked true i m)))
-        (subst (λ (d : Ty × ℕ). ent 𝓤 (sep 𝓤 (sem 𝓤 H A (pool E m)) (sem 𝓤 H A (froom (d .0) (d .1) zero))) (sem 𝓤 H A (pool E
+        (subst (λ (d : Ty × ℕ). ent 𝓤 (sep 𝓤 (sem 𝓤 H A (pool E m)) (sem 𝓤 H A (froom (d .0) (d .1) zero))) (sem 𝓤 H
+            A (pool E
             (marked true i m)))) eq (into 𝓤 H A W i E m h)) $ veil t E (marked true i m) $ s)
 
 -- ---- several at once: each local with its type
@@ -193,12 +210,18 @@ module _ {M : Type 1} (𝓤 : URA M) (H : Heap 𝓤) where
   abbrev pub block : Env 𝓤 H → ℕ → ℕ
   block E i = getD E i (noLocal 𝓤 H) .1
 
+  abbrev pub Lies : Env 𝓤 H → ℕ → Ty → Type 0
+  Lies E i τ = getD E i (noLocal 𝓤 H) ≡ (τ, block E i)
+
   abbrev pub Spots : Env 𝓤 H → List (ℕ × Ty) → Type 0
   Spots E [] = Unit {0}
-  Spots E (i ∷ is) = (getD E (i .0) (noLocal 𝓤 H) ≡ (i .1, block E (i .0))) × Spots E is
+  Spots E (i ∷ is) = Lies E (i .0) (i .1) × Spots E is
 
   abbrev pub AllSpots : List Local → Env 𝓤 H → Type 0
-  AllSpots ls E = (i : ℕ) → getD E i (noLocal 𝓤 H) ≡ (typeOf ls i, block E i)
+  AllSpots ls E = (i : ℕ) → Lies E i (typeOf ls i)
+
+  pub lies-as : (ls : List Local) (E : Env 𝓤 H) → AllSpots ls E → (i : ℕ) (τ : Ty) → typeOf ls i ≡ τ → Lies E i τ
+  lies-as ls E at-E i τ e = subst (Lies E i) e (at-E i)
 
   pub spot-of : (ls : List Local) (bs : Blocks ls) → AllSpots ls (envOf ls bs)
   spot-of [] bs i = refl
@@ -211,14 +234,17 @@ module _ {M : Type 1} (𝓤 : URA M) (H : Heap 𝓤) where
   rooms E (i ∷ is) Γ = rooms E is (‵ (froom (i .1) (block E (i .0)) zero) ∷ Γ)
 
 module _ {M : Type 1} {𝓤 : URA M} {H : Heap 𝓤} {A : Atoms 𝓤} {K : Type 0} {W : Given 𝓤 H A} {G : Goal 𝓤 H} where
-  pub takes-all : K → (is : List (ℕ × Ty)) {E : Env 𝓤 H} {m : List Bool} {Γ : List (Item 𝓤)} → Spots 𝓤 H E is → T (allIn is m)
+  pub takes-all : K → (is : List (ℕ × Ty)) {E : Env 𝓤 H} {m : List Bool} {Γ : List (Item 𝓤)} → Spots 𝓤 H E is → T
+      (allIn is m)
       → Step K W (Pool E (taken is m) ∷ rooms 𝓤 H E is Γ) G (Pool E m ∷ Γ) G
   takes-all t [] sp h = step (λ s. s)
   takes-all t (i ∷ is) {E} {m} sp h = step (λ s. takes t (i .0) (sp .0) (and-yes (has true (i .0) m) _ h .0) $
       takes-all t is (sp .1) (and-yes (has true (i .0) m) _ h .1) $ s)
 
-  pub puts-all : K → (is : List (ℕ × Ty)) {E : Env 𝓤 H} {m : List Bool} {Γ : List (Item 𝓤)} → Spots 𝓤 H E is → T (allOut is m)
+  pub puts-all : K → (is : List (ℕ × Ty)) {E : Env 𝓤 H} {m : List Bool} {Γ : List (Item 𝓤)} → Spots 𝓤 H E is → T
+      (allOut is m)
       → Step K W (Pool E (putBack is m) ∷ Γ) G (Pool E m ∷ rooms 𝓤 H E is Γ) G
   puts-all t [] sp h = step (λ s. s)
-  puts-all t (i ∷ is) {E} {m} sp h = step (λ s. puts-all t is (sp .1) (and-yes (has false (i .0) (putBack is m)) _ h .1) $
+  puts-all t (i ∷ is) {E} {m} sp h = step (λ s. puts-all t is (sp .1) (and-yes (has false (i .0) (putBack is m)) _ h
+      .1) $
       puts t (i .0) (sp .0) (and-yes (has false (i .0) (putBack is m)) _ h .0) $ s)
