@@ -1,2 +1,3 @@
 pub mod Arms
+pub mod Numbered
 pub mod Turning

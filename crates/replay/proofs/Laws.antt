@@ -1,0 +1,10 @@
+pub mod Parts
+pub mod Replay
+pub mod Rooms
+pub mod Shown
+pub mod Line
+pub mod Lines
+pub mod Chunks
+pub mod Flushes
+pub mod Start
+pub mod Rest

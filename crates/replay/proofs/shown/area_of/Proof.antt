@@ -1,0 +1,28 @@
+-- `replay::shown::area_of` meets its contract.
+-- Assumes nothing.
+use mathlib.Core.Path.{sym, ap}
+use native.Mathlib.Omega.{arith}
+use lib.ListN.{List·getD-eq-default}
+use borrow.Author.Needs.{needs}
+use Rattle.rules.specs.Store.{noPartition}
+use Rattle.rules.specs.declared.Partition.{Partition}
+use Rattle.partition.proofs.Laws.Places.{partitions-8}
+use Rattle.replay.proofs.shown.area_of.Statement.{statement}
+use Rattle.replay.proofs.shown.area_of.Tie as tie
+
+returns : tie.Need-returns
+returns c = let s = c .before in let n = partitions-8 (s .args .t1) _ (s .good .0) in
+    sym (ap (λ (q : Partition). q .area) (List·getD-eq-default (s .args .t1 .at) noPartition
+        (omega (arith, c .if1 .taken))))
+
+mul-result : tie.Need-mul-result
+mul-result c = search needs
+
+element-copy-out-result : tie.Need-element-copy-out-result
+element-copy-out-result c = search needs
+
+returns-2 : tie.Need-returns-2
+returns-2 c = search needs
+
+pub area-of-spec : {M : Type 1} → statement M
+area-of-spec = tie.close (tie.spec returns mul-result element-copy-out-result returns-2)

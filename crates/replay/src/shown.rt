@@ -1,0 +1,149 @@
+// The rows that a scan shows: the words of a partition at the ones of its bitmap. 01 "A session", S.
+ghost use mathlib.Core.Path.{_≡_};
+ghost use lib.ListN.{length};
+ghost use Rattle.lists.specs.Lists.{over};
+ghost use Rattle.rules.specs.Claim.{bitAt, wordsAtOnes};
+ghost use Rattle.session_text.specs.Lines.{sizeIn, writtenIn};
+ghost use Rattle.session_text.specs.Print.{printed};
+ghost use Rattle.replay.specs.Shown.{shownWords, fitting, rowsIn, areaOf, shownIn};
+use crate::least::least;
+use rules::Answer;
+use rules::Command;
+use rules::Partitions;
+
+// rowsMax and partitionsMax of rules.
+const ROWS_MAX: usize = 512;
+
+const PARTITIONS_MAX: u64 = 8;
+
+// Bit i of a bitmap, row 0 lowest in byte 0; past its end there are no ones.
+fn is_one(bitmap: &[u8], i: usize) -> bool
+    ensures { λ r. ⌜ r ≡ bitAt (now (bitmap .entry)) i ⌝ }
+{
+    let at = i / 8;
+    if bitmap.len() <= at {
+        return false;
+    }
+    (bitmap[at] >> (i % 8)) % 2 == 1
+}
+
+// The words at the ones, lowest first, as many as have room.
+fn pick(words: &[u64], bitmap: &[u8], out: &mut [u64]) -> usize
+    ensures answer { λ r. let ws = fitting (wordsAtOnes (now (bitmap .entry)) 0 (now (words .entry)))
+        (now (out .entry)) in
+        ⌜ r ≡ length ws ⌝ }
+    ensures words { λ _. let ws = fitting (wordsAtOnes (now (bitmap .entry)) 0 (now (words .entry)))
+        (now (out .entry)) in
+        ⌜ now (out .exit) ≡ over 0 ws (now (out .entry)) ⌝ }
+{
+    let mut k = 0;
+    let mut i = 0;
+    while i < words.len() {
+        if !is_one(bitmap, i) {
+            i += 1;
+            continue;
+        }
+        if out.len() <= k {
+            return k;
+        }
+        out[k] = words[i];
+        k += 1;
+        i += 1;
+    }
+    k
+}
+
+// The words at the ones of the first n rows of an area, at the front of a buffer, as many as have room; answers how
+// many.
+pub fn shown_rows(rows: &[u64], area: usize, n: usize, bitmap: &[u8], out: &mut [u64]) -> usize
+    ensures answer { λ r. let ws = fitting (shownWords (now (bitmap .entry)) area n (now (rows .entry)))
+        (now (out .entry)) in
+        ⌜ r ≡ length ws ⌝ }
+    ensures words { λ _. let ws = fitting (shownWords (now (bitmap .entry)) area n (now (rows .entry)))
+        (now (out .entry)) in
+        ⌜ now (out .exit) ≡ over 0 ws (now (out .entry)) ⌝ }
+{
+    if rows.len() / ROWS_MAX < area {
+        return 0;
+    }
+    let from = ROWS_MAX * area;
+    let end = from + least(least(n, ROWS_MAX), rows.len() - from);
+    pick(&rows[from..end], bitmap, out)
+}
+
+// How many rows a scan counted.
+fn rows_of(answer: Answer) -> usize
+    ensures { λ r. ⌜ r ≡ rowsIn answer ⌝ }
+{
+    match answer {
+        Answer::Scanned { rows, ones: _ } => rows,
+        _ => 0,
+    }
+}
+
+// The area of partition p, 0 past the last.
+fn area_of(partitions: Partitions, p: u64) -> usize
+    ensures { λ r. ⌜ r ≡ areaOf partitions p ⌝ }
+{
+    if PARTITIONS_MAX <= p {
+        return 0;
+    }
+    partitions.at[p as usize].area
+}
+
+// The rows that a command shows, once it is answered: those of a scan, and of no other.
+fn show(
+    command: Command,
+    answer: Answer,
+    partitions: Partitions,
+    rows: &[u64],
+    bitmap: &[u8],
+    out: &mut [u64],
+) -> usize
+    ensures answer { λ r. let ws = fitting (shownIn command answer partitions (now (bitmap .entry))
+        (now (rows .entry))) (now (out .entry)) in
+        ⌜ r ≡ length ws ⌝ }
+    ensures words { λ _. let ws = fitting (shownIn command answer partitions (now (bitmap .entry))
+        (now (rows .entry))) (now (out .entry)) in
+        ⌜ now (out .exit) ≡ over 0 ws (now (out .entry)) ⌝ }
+{
+    match command {
+        Command::Scan {
+            reader: _,
+            partition,
+        } => shown_rows(
+            rows,
+            area_of(partitions, partition),
+            rows_of(answer),
+            bitmap,
+            out,
+        ),
+        _ => 0,
+    }
+}
+
+// The line that answers a command, at the front of `out`, with the rows that it shows, which `numbers` holds then.
+pub(crate) fn print_answer(
+    command: Command,
+    answer: Answer,
+    partitions: Partitions,
+    rows: &[u64],
+    bitmap: &[u8],
+    numbers: &mut [u64],
+    out: &mut [u8],
+) -> usize
+    ensures size { λ r. let ws = fitting (shownIn command answer partitions (now (bitmap .entry)) (now (rows .entry)))
+          (now (numbers .entry)) in
+        ⌜ r ≡ sizeIn (printed command answer ws) (now (out .entry)) ⌝ }
+    ensures bytes { λ _. let ws = fitting (shownIn command answer partitions (now (bitmap .entry))
+        (now (rows .entry)))
+          (now (numbers .entry)) in
+        ⌜ now (out .exit) ≡ writtenIn (printed command answer ws) (now (out .entry)) ⌝ }
+    ensures words { λ _. let ws = fitting (shownIn command answer partitions (now (bitmap .entry))
+        (now (rows .entry)))
+          (now (numbers .entry)) in
+        ⌜ now (numbers .exit) ≡ over 0 ws (now (numbers .entry)) ⌝ }
+{
+    let n = show(command, answer, partitions, rows, bitmap, numbers);
+    session_text::print(command, answer, &numbers[..n], out)
+}

@@ -1,0 +1,136 @@
+// A session on standard input and output: a call a line, and a line that answers it. 01 "A session".
+ghost use Prim.Native.Nat.{_≤_};
+ghost use lib.ListN.{length};
+use lent::Table;
+use libc::STDIN_FILENO;
+use libc::STDOUT_FILENO;
+use rules::State;
+
+// The store after some lines, how many bytes of input they were, and whether their answers were written.
+struct Answers {
+    state: State,
+    table: Table,
+    used: usize,
+    sent: bool,
+}
+
+// The whole lines of `input`, their answers written out whenever `out` is full.
+fn answer_all(
+    state: State,
+    table: Table,
+    input: &[u8],
+    rows: &mut [u64],
+    numbers: &mut [u64],
+    out: &mut [u8],
+) -> Answers
+    ensures { λ r. ⌜ r .used ≤ length (now (input .entry)) ⌝ }
+{
+    let mut state = state;
+    let mut table = table;
+    let mut used = 0;
+    while used < input.len() {
+        let r = replay::replay(state, table, &input[used..], rows, numbers, out);
+        let s = r.state;
+        let t = r.table;
+        state = s;
+        table = t;
+        let written = r.written;
+        if !io::write_all(STDOUT_FILENO, &out[..written]) {
+            return Answers {
+                state,
+                table,
+                used,
+                sent: false,
+            };
+        }
+        let more = r.used;
+        if more == 0 {
+            return Answers {
+                state,
+                table,
+                used,
+                sent: true,
+            };
+        }
+        used += more;
+    }
+    Answers {
+        state,
+        table,
+        used,
+        sent: true,
+    }
+}
+
+// The last line, where it has no end.
+fn answer_last(
+    state: State,
+    table: Table,
+    line: &[u8],
+    rows: &mut [u64],
+    numbers: &mut [u64],
+    out: &mut [u8],
+) {
+    if line.len() == 0 {
+        return;
+    }
+    let a = replay::answer_line(state, table, line, rows, numbers, out);
+    let written = a.written;
+    io::write_all(STDOUT_FILENO, &out[..written]);
+}
+
+// More of standard input after the bytes held; answers where they end. At the end of input, or where it cannot be
+// read,
+// no more come.
+fn read_more(input: &mut [u8], held: usize) -> usize
+    requires { ⌜ held ≤ length (now input) ⌝ }
+    ensures { λ r. ⌜ r ≤ length (now (input .exit)) ⌝ }
+{
+    let got = libc::read(STDIN_FILENO, &mut input[held..]);
+    held + io::count(got, &input[held..])
+}
+
+// Standard input to its end, in chunks of any size. The bytes of a line that is yet to end stay at the front of
+// `input`.
+// A proved loop has to end, so it counts its turns down, from a number that no run uses up.
+fn serve(
+    state: State,
+    table: Table,
+    rows: &mut [u64],
+    numbers: &mut [u64],
+    input: &mut [u8],
+    out: &mut [u8],
+) {
+    let mut state = state;
+    let mut table = table;
+    let mut held = 0;
+    let mut turns = u64::MAX;
+    while turns > 0 {
+        turns -= 1;
+        let end = read_more(input, held);
+        if end == held {
+            answer_last(state, table, &input[..held], rows, numbers, out);
+            return;
+        }
+        let a = answer_all(state, table, &input[..end], rows, numbers, out);
+        if !a.sent {
+            return;
+        }
+        let s = a.state;
+        let t = a.table;
+        state = s;
+        table = t;
+        held = replay::keep_rest(input, a.used, end);
+    }
+}
+
+fn main() {
+    let mut rows = [0u64; 4608];
+    let mut numbers = [0u64; 8192];
+    let mut input = io::large_buffer();
+    let mut out = io::large_buffer();
+    let first = replay::start(&mut rows);
+    let state = first.state;
+    let table = first.table;
+    serve(state, table, &mut rows, &mut numbers, &mut input, &mut out);
+}
