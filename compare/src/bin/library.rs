@@ -8,6 +8,7 @@ use model::check::difference;
 use model::histories::{Calls, PROFILES};
 use model::partition::Entry;
 use model::random::Rng;
+use model::sound::well_formed;
 use model::store::Store;
 use model::stores::{random_store, spoilt_store};
 use std::process::ExitCode;
@@ -76,8 +77,10 @@ fn main() -> ExitCode {
         let profile = PROFILES[(round / 4) as usize % PROFILES.len()];
         let mut calls = Calls::new(round, profile);
         let mut store = store_for(round, &mut calls);
+        // Calls are drawn for a well-formed store.
+        let other = random_store(&mut calls.rng);
         for _ in 0..CALLS {
-            let next = calls.next_call(&store);
+            let next = calls.next_call(if well_formed(&store) { &store } else { &other });
             if let Err(what) = differs(&next, &mut store, &mut tally) {
                 println!("round {round}, {}: {next:?}: {what}", profile.name);
                 return ExitCode::FAILURE;

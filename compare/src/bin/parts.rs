@@ -2,6 +2,8 @@
 //! buffers not cleared between calls. Prints the best of nine runs in nanoseconds a call. The model's scans and purge are
 //! timed without its test of soundness, as the proved functions beside them have none; begin and commit test the books.
 
+// For the static library that it links.
+use compare as _;
 use model::clock::Clock;
 use model::partition::Entry;
 use model::store::Store;

@@ -1,12 +1,10 @@
--- The arms of the dispatcher's match, each shape once: slices are made of the caller's, the call is made, and the
--- locals are as before.
---     lent-to, scan-to     an arm's statements: entries and rows are lent from local a on, and for a scan the
--- bitmap too
---     Arm          an arm's context: the pool, entries and rows with their tokens, local 22, the books, locals 2
--- and 3
+-- The arms of the dispatcher's match, each shape once: slices are made of the caller's, the call is made, and
+-- the locals are as before.
+--     lent-to, scan-to     an arm's statements: entries and rows are lent from local a on, a bitmap too
+--     Arm                  its context: the pool, entries and rows with their tokens, locals 22, 1, 2 and 3
 --     binds, unbinds       a local is set to what the command has, and let go
---     looked, wrote, wrote-from, scanned       a call that only looks, that writes, that writes from the batch,
--- that scans
+--     looked, wrote        a call that only looks, and one that writes
+--     wrote-from, scanned  one that writes from the batch, and a scan
 -- Assumes `Given`.
 use mathlib.Core.Path.{_≡_, refl}
 use Prim.Native.Nat.{ℕ, zero, suc, _+_}

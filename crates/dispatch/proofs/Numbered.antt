@@ -1,7 +1,8 @@
--- Arms with their numbers: each is copied out of the command into a local, and the local is let go when the call
--- has returned.
---     bound        field j of variant k of place s is copied to local n.        nums     numbers as operands
---     look-one, write-one      a call with one number.        scan-one     a scan, by its reader's number
+-- Arms with their numbers: each is copied out of the command into a local, which is let go when the call has
+-- returned.
+--     bound, nums          field j of variant k of place s is copied to local n, and such locals as operands
+--     look-one, write-one  a call with one number
+--     scan-one             a scan, by its reader's number
 -- Assumes `Given`.
 use mathlib.Core.Path.{_≡_, refl}
 use mathlib.Core.Bool.{Bool, true, false, _&&_}

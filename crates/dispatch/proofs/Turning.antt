@@ -1,5 +1,5 @@
--- The dispatcher's call, lent a local array, two `&mut [R]` and a `&[R]`: books B and a command P by value.
---     turn-call    the call.        Turns        its signature
+-- The dispatcher's call with books and a command by value, lent a local array, two `&mut [R]` and a `&[R]`.
+--     Turns        its signature.        turn-call    the call
 -- Assumes `Given`.
 use mathlib.Core.Path.{_≡_, _∙_}
 use Prim.Native.Nat.{ℕ}

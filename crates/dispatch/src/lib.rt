@@ -47,6 +47,7 @@ pub fn dispatch(state: State, entries: &mut [Entry], rows: &mut [u64], batch: &[
     }
 }
 
+// turn is proved by hand, since it lends the entries. What it does beside that call stands in these two, which are not.
 fn entries_in(table: Table) -> [Entry; 576]
     ensures { λ r. ⌜ r ≡ table .at ⌝ }
 {

@@ -1,15 +1,21 @@
 -- Calls and replies as numbers, for callers in C and Rust.
--- In order: commandOf, repliedOf.
+-- In order: commandOf, repliedOf, Answers.
 -- Assumes nothing.
+use mathlib.Core.Path.{_≡_}
 use mathlib.Core.Bool.{cond}
+use mathlib.Core.List.{List}
 use Prim.Native.Nat.{ℕ}
 use lib.Dec.{eqb}
-use Rattle.rules.specs.Answers.{replyOf}
+use Rattle.rules.specs.Answers.{Reply, replyOf}
+use Rattle.rules.specs.Step.{Outcome}
 use Rattle.rules.specs.declared.Command.{Command}
 use Rattle.rules.specs.declared.Command.the-variants.{Create, Begin, Append, Clear, Commit, RollBack}
 use Rattle.rules.specs.declared.Command.the-variants.{BeginRo, EndRo, Scan, AdvanceLse, Purge}
 use Rattle.rules.specs.declared.Reader.the-variants.{Rw, Ro}
+use Rattle.rules.specs.declared.Entry.{Entry}
+use Rattle.store.specs.Kept.{storeOf}
 use Rattle.store.specs.declared.Kept.{Kept}
+use Rattle.dispatch.specs.Dispatch.{bitmapLeft}
 use Rattle.exports.specs.declared.numbered.Replied.{Replied}
 
 -- the call that a number names; 11 and above is purge
@@ -33,3 +39,13 @@ abbrev pub repliedOf : Kept → Replied
 repliedOf k = record {
   number = replyOf (k .answer) .number; value = replyOf (k .answer) .value; second = replyOf (k .answer) .second;
   state = k .state }
+
+abbrev replyIn : Replied → Reply
+replyIn r = record { number = r .number; value = r .value; second = r .second }
+
+-- the numbers, the books and the lent areas at the end are those of step's outcome; the bitmap was lent as `lent`
+-- and is `bytes` at the end
+abbrev pub Answers : Command → Outcome → Replied → List ℕ → List Entry → List ℕ → List ℕ → Type 0
+Answers c out r rows entries lent bytes =
+    (replyIn r ≡ replyOf (out .answer)) × (storeOf (r .state) rows entries ≡ out .store)
+    × (bytes ≡ bitmapLeft c out lent)

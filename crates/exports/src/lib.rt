@@ -1,16 +1,25 @@
-// Proved functions for callers in C and Rust: what the benchmark times. Each says what the functions say that it calls.
+// Proved functions for callers in C and Rust: what the benchmark times. Each says what the functions say that it
+// calls.
 ghost use mathlib.Core.Path.{_≡_};
 ghost use Rattle.partition.specs.Rows.{putRows};
 ghost use Rattle.visible.specs.Scan.{scanned, bitmapScanned};
 ghost use Rattle.rewrite.specs.Copied.{rowsCopied};
 ghost use Rattle.rewrite.specs.Kept.{rewrittenOf};
+ghost use Rattle.rules.specs.Step.{step, callOf};
+ghost use Rattle.store.specs.Kept.{storeOf};
 ghost use Rattle.exports.specs.Pairs.{begunThenCommitted, purgePlan, rollPlan};
+ghost use Rattle.exports.specs.Numbered.{commandOf, Answers};
 
 mod numbered;
 
+use numbered::command_of;
+use numbered::reply_to;
+use numbered::Replied;
 use rewrite::Plan;
 use rewrite::Rewritten;
+use rules::Entry;
 use rules::Manager;
+use rules::State;
 use visible::Area;
 use visible::View;
 
@@ -69,4 +78,18 @@ pub extern "C" fn nizgulk_copy_kept(rows: &mut [u64], a: Area, p: Plan, from: us
     ensures { λ _. ⌜ now (rows .exit) ≡ rowsCopied a p from to (now (rows .entry)) ⌝ }
 {
     rewrite::copying::copy_kept(rows, a, p, from, to)
+}
+
+// Any call by its number, over lent areas: numbered::command_of says which.
+#[no_mangle]
+pub extern "C" fn nizgulk_call(state: State, entries: &mut [Entry], rows: &mut [u64], batch: &[u64],
+    bitmap: &mut [u8], kind: u64, first: u64, second: u64) -> Replied
+    ensures { λ r. ⌜ (let c = commandOf kind first second in
+        Answers c (step (callOf c (now (batch .entry)) (now (bitmap .entry)))
+                (storeOf state (now (rows .entry)) (now (entries .entry))))
+            r (now (rows .exit)) (now (entries .exit)) (now (bitmap .entry)) (now (bitmap .exit))) ⌝ }
+{
+    let c = command_of(kind, first, second);
+    let k = dispatch::dispatch(state, entries, rows, batch, bitmap, c);
+    reply_to(k)
 }

@@ -17,7 +17,8 @@ pub struct Replied {
     pub state: State,
 }
 
-// The call that a number names, in the order of 01's list with the two readers of a scan apart; 11 and above is purge.
+// The call that a number names, in the order of 01's list with the two readers of a scan apart; 11 and above is
+// purge.
 pub fn command_of(kind: u64, first: u64, second: u64) -> Command
     ensures { λ r. ⌜ r ≡ commandOf kind first second ⌝ }
 {

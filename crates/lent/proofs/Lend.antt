@@ -1,15 +1,14 @@
--- Slices lent for one call: lending, the call and taking back as steps of their own, so that a call may be lent any
--- number of them.
+-- Slices lent for one call: lending, the call and taking back as steps of their own, so that a call may be lent
+-- any number of them.
 --     Lent         a slice that the walk holds: its lifetime, share, place, name and list
 --     again        the same under a lifetime and a name made for a call
 --     lends, back              a `&mut [R]` is lent again, and comes back at the list that the callee left
 --     shares, back-shared      a `&mut [R]` is lent as a `&[R]`, and comes back as it was
 --     copies                   a `&[R]` is passed as a copy, and stays
---     lends-local, back-local  a local array is lent as a `&mut [R]`, and comes back at the list that the callee
--- left
+--     lends-local, back-local  a local array is lent as a `&mut [R]`, and comes back at the callee's list
 --     reborrow, reborrows      the statements that make the slice which is lent
---     answered     a call of any signature: the result by its machine value, what the callee says of the last
--- values, and its `ensures`
+--     Calling, answered        a call of any signature, in the middle of a body or at an arm's end: the result
+--                              by its machine value, the last values, and what the callee ensures
 -- Assumes `Given`.
 use mathlib.Core.Path.{_≡_, refl, sym, _∙_, ap, subst}
 use Prim.Native.Nat.{ℕ, _<_, _^_}

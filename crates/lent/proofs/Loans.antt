@@ -1,10 +1,10 @@
--- Calls that are lent several slices, by the steps of Lend.antt. Each callee takes books B by value, entries R₁ and
--- rows R₂,
--- perhaps one more slice, and numbers.
---     numbers      parameters of type u64, by the list of their values
+-- Calls that are lent several slices, by the steps of Lend.antt. Each callee takes books B by value, entries R₁
+-- and rows R₂, perhaps one more slice, and numbers.
+--     numbers          parameters of type u64, by the list of their values
 --     Free, Callee     a contract that asks for nothing, and a function that has one
---     look-call    entries and rows are lent as `&`.        write-call   as `&mut`
---     write-from-call  as `&mut`, and a `&` is passed on.        scan-call    as `&`, and a third slice as `&mut`
+--     look-call, write-call    entries and rows are lent as `&`, and as `&mut`
+--     write-from-call          as `&mut`, and a `&` is passed on
+--     scan-call                as `&`, and a third slice as `&mut`
 -- The caller's context has each slice with its token at its head. The operands are read with two entries in place
 -- of all these.
 -- Assumes `Given`.

@@ -1,12 +1,10 @@
 -- A function's locals as one entry of the context, so that a walk names only those which a statement uses.
---     envOf        the locals ls in the blocks bs.        typeOf       local i's type
+--     envOf, typeOf    the locals ls in the blocks bs, and local i's type
 --     Lies, Spots, AllSpots    where a local lies, several, and all.        spot-of      they lie in envOf
---     Pool E m     all of them: what frees each, and its room, but for those that the mask m has as false, which
--- are out
---     allocs-all   a function's locals are allocated, and make the pool.        frees-all    the pool frees them
---     takes, takes-all     the room of a local, or of several, is taken out of the pool.        puts, puts-all
--- it goes back
---     spot         a place of local i.        returns-at   a function returns
+--     Pool E m         all: what frees each, and its room, but for those that the mask m has as false, which are out
+--     allocs-all       a function's locals are allocated, and make the pool.        frees-all    it frees them
+--     takes, puts      the room of a local is taken out of the pool, and goes back; takes-all, puts-all of several
+--     spot             a place of local i.        returns-at   a function returns
 -- The pool is at the head of the context in each, and what is taken out stands behind it.
 -- Assumes `Given`.
 use mathlib.Core.Path.{_≡_, refl, sym, subst}

@@ -1,5 +1,6 @@
 // A session on slices: a line answered, and a buffer of lines. 01 "A session".
 mod least;
+mod limits;
 mod line;
 mod lines;
 mod opening;

@@ -1,4 +1,6 @@
 // One line of a session: parsed, called, answered. 01 "A session".
+use crate::limits::ANSWER_MAX;
+use crate::limits::NUMBERS_MAX;
 use crate::shown::print_answer;
 use dispatch::turn;
 use lent::Table;
@@ -17,15 +19,9 @@ pub struct Answered {
     pub written: usize,
 }
 
-// numbersMax and answerMax of specs/Rooms.antt.
-const NUMBERS_MAX: usize = 8192;
-
-const ANSWER_MAX: usize = 16384;
-
 // A line without its end: the call that it is made, and its answer at the front of `out`. `numbers` holds the line's
 // numbers, then the rows that it shows. With less than 8,192 words or 16,384 bytes lent nothing is read or written;
-// so
-// much is always enough.
+// so much is always enough.
 pub fn answer_line(
     state: State,
     table: Table,

@@ -1,4 +1,6 @@
 // A buffer of lines, one answered after the other. 01 "A session".
+use crate::limits::ANSWER_MAX;
+use crate::limits::NUMBERS_MAX;
 use crate::shown::print_answer;
 use dispatch::Turned;
 use dispatch::turn;
@@ -20,11 +22,6 @@ pub struct Replayed {
     pub used: usize,
     pub written: usize,
 }
-
-// numbersMax and answerMax of specs/Rooms.antt.
-const NUMBERS_MAX: usize = 8192;
-
-const ANSWER_MAX: usize = 16384;
 
 // The whole lines at the front of `input`, each answered while 16,384 bytes of `out` are left; the answers stand one
 // after the other at its front. With less than 8,192 words lent as `numbers` no line is read.

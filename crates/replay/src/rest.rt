@@ -1,12 +1,10 @@
 // What is left of a buffer after its whole lines: the front of a line that is yet to come. 01 "A session".
 use crate::least::least;
+use crate::limits::KEPT_MAX;
 ghost use mathlib.Core.Path.{_≡_};
 ghost use lib.ListN.{length};
 ghost use Rattle.lists.specs.Lists.{over};
 ghost use Rattle.replay.specs.Lines.{kept};
-
-// keptMax of specs/Lines.antt: one byte more than the longest line has.
-const KEPT_MAX: usize = 16385;
 
 // The bytes from `from` to `to` moved to the front; answers how many. Of more than 16,385 the others are dropped: the
 // line that they begin is `?`, however it goes on.

@@ -7,14 +7,11 @@ ghost use Rattle.session_text.specs.Lines.{sizeIn, writtenIn};
 ghost use Rattle.session_text.specs.Print.{printed};
 ghost use Rattle.replay.specs.Shown.{shownWords, fitting, rowsIn, areaOf, shownIn};
 use crate::least::least;
+use crate::limits::PARTITIONS_MAX;
+use crate::limits::ROWS_MAX;
 use rules::Answer;
 use rules::Command;
 use rules::Partitions;
-
-// rowsMax and partitionsMax of rules.
-const ROWS_MAX: usize = 512;
-
-const PARTITIONS_MAX: u64 = 8;
 
 // Bit i of a bitmap, row 0 lowest in byte 0; past its end there are no ones.
 fn is_one(bitmap: &[u8], i: usize) -> bool

@@ -1,6 +1,10 @@
 // A session on standard input and output: a call a line, and a line that answers it. 01 "A session".
+ghost use mathlib.Core.Bool.{true};
+ghost use mathlib.Core.Path.{_≡_};
 ghost use Prim.Native.Nat.{_≤_};
 ghost use lib.ListN.{length};
+ghost use Rattle.store.specs.Kept.{storeOf};
+ghost use Rattle.session.specs.Answers.{Roomy, AllAnswered};
 use lent::Table;
 use libc::STDIN_FILENO;
 use libc::STDOUT_FILENO;
@@ -14,7 +18,7 @@ struct Answers {
     sent: bool,
 }
 
-// The whole lines of `input`, their answers written out whenever `out` is full.
+// The whole lines of `input`, all of them, their answers written out whenever `out` is full.
 fn answer_all(
     state: State,
     table: Table,
@@ -23,7 +27,10 @@ fn answer_all(
     numbers: &mut [u64],
     out: &mut [u8],
 ) -> Answers
-    ensures { λ r. ⌜ r .used ≤ length (now (input .entry)) ⌝ }
+    requires { ⌜ Roomy (now numbers) (now out) ⌝ }
+    ensures { λ r. ⌜ (r .used ≤ length (now (input .entry)))
+        × (r .sent ≡ true → AllAnswered (now (input .entry)) (storeOf state (now (rows .entry)) (table .at))
+          (r .used) (storeOf (r .state) (now (rows .exit)) (r .table .at))) ⌝ }
 {
     let mut state = state;
     let mut table = table;
@@ -80,8 +87,7 @@ fn answer_last(
 }
 
 // More of standard input after the bytes held; answers where they end. At the end of input, or where it cannot be
-// read,
-// no more come.
+// read, no more come.
 fn read_more(input: &mut [u8], held: usize) -> usize
     requires { ⌜ held ≤ length (now input) ⌝ }
     ensures { λ r. ⌜ r ≤ length (now (input .exit)) ⌝ }
@@ -91,8 +97,7 @@ fn read_more(input: &mut [u8], held: usize) -> usize
 }
 
 // Standard input to its end, in chunks of any size. The bytes of a line that is yet to end stay at the front of
-// `input`.
-// A proved loop has to end, so it counts its turns down, from a number that no run uses up.
+// `input`. A proved loop has to end, so it counts its turns down, from a number that no run uses up.
 fn serve(
     state: State,
     table: Table,
@@ -100,7 +105,9 @@ fn serve(
     numbers: &mut [u64],
     input: &mut [u8],
     out: &mut [u8],
-) {
+)
+    requires { ⌜ Roomy (now numbers) (now out) ⌝ }
+{
     let mut state = state;
     let mut table = table;
     let mut held = 0;

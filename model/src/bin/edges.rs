@@ -4,9 +4,9 @@
 //! - `n s _`: made new at s.
 //! - `w field value`: a word of the store is overwritten (see `field`). Prints nothing.
 //! - `t who id lot bytes`: a scan by a load (0) or a page (1), lent so many of eight bytes of 165; prints all eight.
-//! - `p lot _`: a purge, and the rows that it answers.
+//! - `p lot _`: a purge; `r` and the rows that it answers, after their count, are a line of their own.
 //! - `g rows _`: begin, lent so many rows.
-//! - `f load lot count`: an append of the rows 0, 1, 2 and so on.
+//! - `f load lot count`: an append of so many rows, each 7.
 //! - `b count _`, `q count _`, `d load lot count`: so many begins, pages at 0, clearings; prints the last answer.
 //! - A line that starts with `#` is printed as it is.
 
@@ -19,6 +19,8 @@ use std::io::{self, BufRead, Write};
 
 /// Bytes that a case's bitmap has, lent or not.
 const BYTES: usize = 8;
+/// The rows of a filled batch.
+const ROW: u64 = 7;
 
 /// The word of the store that a number names.
 fn field(store: &mut Store, at: u64) -> Option<&mut u64> {
@@ -72,13 +74,18 @@ fn repeated(store: &mut Store, call: &Call, count: u64) -> Vec<u64> {
     last
 }
 
-/// What a line of a small letter prints after its letter; nothing for a line that is none.
-fn edge(store: &mut Store, letter: u8, words: &[u64]) -> Option<Vec<u64>> {
+/// A printed line: a letter and numbers.
+type Line = (u8, Vec<u64>);
+
+/// What a line of a small letter prints.
+fn edge(store: &mut Store, letter: u8, words: &[u64]) -> Vec<Line> {
     let all = match (letter, words) {
         (b'n', [start, _]) => vec![number_of(&store.make_new(*start))],
         (b'w', [at, value]) => {
-            *field(store, *at)? = *value;
-            return None;
+            if let Some(word) = field(store, *at) {
+                *word = *value;
+            }
+            return Vec::new();
         }
         (b't', [who, id, lot, bytes]) => {
             let mut bitmap = [BITMAP_FILL; BYTES];
@@ -92,13 +99,14 @@ fn edge(store: &mut Store, letter: u8, words: &[u64]) -> Option<Vec<u64>> {
         }
         (b'p', [lot, _]) => {
             let answer = store.purge(*lot);
-            let mut all = vec![number_of(&answer)];
-            if let Ok(purged) = answer {
+            let number = number_of(&answer);
+            let (rewritten, part) = answer.map_or((false, &[][..]), |purged| {
                 let from = purged.live.place as usize;
-                all.push(u64::from(purged.rewritten));
-                all.extend(&store.rows[from..from + purged.live.count as usize]);
-            }
-            all
+                (purged.rewritten, &store.rows[from..from + purged.live.count as usize])
+            });
+            let mut rows = vec![part.len() as u64];
+            rows.extend(part);
+            return vec![(letter, vec![number, u64::from(rewritten)]), (b'r', rows)];
         }
         (b'g', [rows, _]) => {
             let kept = store.rows.clone();
@@ -108,7 +116,7 @@ fn edge(store: &mut Store, letter: u8, words: &[u64]) -> Option<Vec<u64>> {
             all
         }
         (b'f', [epoch, partition, count]) => {
-            let call = Call::Append { epoch: *epoch, partition: *partition, rows: (0..*count).collect() };
+            let call = Call::Append { epoch: *epoch, partition: *partition, rows: vec![ROW; *count as usize] };
             repeated(store, &call, 1)
         }
         (b'b', [count, _]) => repeated(store, &Call::Begin, *count),
@@ -116,9 +124,9 @@ fn edge(store: &mut Store, letter: u8, words: &[u64]) -> Option<Vec<u64>> {
         (b'd', [epoch, partition, count]) => {
             repeated(store, &Call::Clear { epoch: *epoch, partition: *partition }, *count)
         }
-        _ => return None,
+        _ => return Vec::new(),
     };
-    Some(all)
+    vec![(letter, all)]
 }
 
 fn main() -> io::Result<()> {
@@ -135,8 +143,8 @@ fn main() -> io::Result<()> {
             Some(letter @ b'a'..=b'z') => {
                 let text = String::from_utf8_lossy(&line[1..]);
                 let words: Vec<u64> = text.split_whitespace().filter_map(|word| word.parse().ok()).collect();
-                if let Some(numbers) = edge(&mut session.store, *letter, &words) {
-                    write!(output, "{}", *letter as char)?;
+                for (letter, numbers) in edge(&mut session.store, *letter, &words) {
+                    write!(output, "{}", letter as char)?;
                     for number in numbers {
                         write!(output, " {number}")?;
                     }

@@ -1,6 +1,6 @@
--- `dispatch::dispatch` meets its contract: a walk of its MIR, by hand. The match goes by cases on the command: its
--- tag is then a numeral, and
--- only the arm that runs is walked, by Arms.antt and Numbered.antt. Match.antt has the arms as a table.
+-- `dispatch::dispatch` meets its contract: a walk of its MIR, by hand. The match goes by cases on the command:
+-- its tag is then a numeral, and only the arm that runs is walked, by Arms.antt and Numbered.antt. Match.antt has
+-- the arms as a table.
 -- Assumes nothing.
 mod Match
 use mathlib.Core.Path.{_≡_, refl}

@@ -81,7 +81,11 @@ slice-aggregate-answer-all c = let r = c .before .before .before .before .read-m
     sym (length-take-le (r .result) (r .last .0) (r .ensures))
 
 answer-all-requires : tie.Need-answer-all-requires Inv-loop μ-loop
-answer-all-requires c κs = search needs
+answer-all-requires c κs = let e = c .before .before .before .before in
+    let l = e .before .before .before .before .before .before in
+    let p = l .before .before .before .before .before .pre in
+    record { for-numbers = omega (arith, p .for-numbers, l .loop .inv .2); for-answer =
+        omega (arith, p .for-answer, l .loop .inv .4) }
 
 same-length-5 : tie.Need-same-length-5 Inv-loop μ-loop
 same-length-5 c = A (c .before) .answer-all .kept .1 .1 .1 .0 ∙ L (c .before) .loop .inv .1

@@ -1,9 +1,7 @@
--- The dispatcher's match as a table: for each command the arm, the locals that it has, and the public call. The MIR
--- is this table.
---     outs, ends   the locals that are out of the pool in each arm, and at the return.        start, ready     such
--- masks
---     the-match    the table.        the-rest     what follows it.        is-match     the function's body is the
--- two
+-- The dispatcher's match as a table: for each command the arm, the locals that it has, and the public call.
+--     outs, ends   the locals that are out of the pool in each arm, and at the return
+--     start        the mask of an arm.        ready        a mask from which the function may return
+--     the-match    the table.        the-rest     what follows it.        is-match     the body is the two
 -- Assumes nothing.
 use mathlib.Core.Path.{_≡_, refl}
 use mathlib.Core.Bool.{Bool, true, false, _&&_}

@@ -1,0 +1,227 @@
+// A word of the store overwritten, by the number that names it. The numbers are those of model/src/bin/edges.rs.
+use lent::Table;
+use rules::Clock;
+use rules::Entry;
+use rules::Manager;
+use rules::Partition;
+use rules::Partitions;
+use rules::RoTxn;
+use rules::RoTxns;
+use rules::RwTxn;
+use rules::RwTxns;
+use rules::State;
+
+pub struct Poked {
+    pub state: State,
+    pub table: Table,
+}
+
+// Before the first making new.
+pub fn blank() -> Poked {
+    let manager = txn::start::created(1);
+    let at = [Partition {
+        area: 0,
+        rows: 0,
+        entries: 0,
+    }; 8];
+    let partitions = Partitions { at: at, spare: 0 };
+    let state = State { manager: manager, partitions: partitions };
+    let entries = lent::blank();
+    let table = lent::to_table(entries);
+    Poked { state: state, table: table }
+}
+
+fn clock(c: Clock, field: u64, value: u64) -> Clock {
+    let mut d = c;
+    match field {
+        0 => {
+            d.ec = value;
+        }
+        1 => {
+            d.lce = value;
+        }
+        _ => {
+            d.lse = value;
+        }
+    }
+    d
+}
+
+fn writer(t: RwTxn, field: u64, value: u64) -> RwTxn {
+    let mut d = t.deps;
+    let mut epoch = t.epoch;
+    let mut waiting = t.waiting;
+    match field {
+        40 => {
+            epoch = value;
+        }
+        41 => {
+            waiting = value;
+        }
+        42 => {
+            d.count = value as usize;
+        }
+        43 => {
+            d.at[0] = value;
+        }
+        44 => {
+            epoch = value;
+        }
+        _ => {
+            d.at[30] = value;
+        }
+    }
+    RwTxn { epoch: epoch, waiting: waiting, deps: d }
+}
+
+fn writers(w: RwTxns, field: u64, value: u64) -> RwTxns {
+    let mut ts = w;
+    if field == 4 {
+        ts.count = value as usize;
+        return ts;
+    }
+    if field == 44 {
+        let t = ts.at[31];
+        let u = writer(t, field, value);
+        ts.at[31] = u;
+        return ts;
+    }
+    let t = ts.at[0];
+    let u = writer(t, field, value);
+    ts.at[0] = u;
+    ts
+}
+
+fn readers(r: RoTxns, field: u64, value: u64) -> RoTxns {
+    let mut ps = r;
+    match field {
+        3 => {
+            ps.next = value;
+        }
+        5 => {
+            ps.count = value as usize;
+        }
+        50 => {
+            let e = ps.at[0].epoch;
+            ps.at[0] = RoTxn { ticket: value, epoch: e };
+        }
+        51 => {
+            let t = ps.at[0].ticket;
+            ps.at[0] = RoTxn { ticket: t, epoch: value };
+        }
+        _ => {
+            let e = ps.at[31].epoch;
+            ps.at[31] = RoTxn { ticket: value, epoch: e };
+        }
+    }
+    ps
+}
+
+fn manager(m: Manager, field: u64, value: u64) -> Manager {
+    let mut n = m;
+    if field < 3 {
+        let c = clock(n.clock, field, value);
+        n.clock = c;
+        return n;
+    }
+    if field == 4 {
+        let ts = writers(n.writers, field, value);
+        n.writers = ts;
+        return n;
+    }
+    if field < 6 {
+        let ps = readers(n.readers, field, value);
+        n.readers = ps;
+        return n;
+    }
+    if field < 50 {
+        let ts = writers(n.writers, field, value);
+        n.writers = ts;
+        return n;
+    }
+    let ps = readers(n.readers, field, value);
+    n.readers = ps;
+    n
+}
+
+// A word of lot `place`: its area (10), rows (20) or entries (30).
+fn partitions(ps: Partitions, field: u64, value: u64) -> Partitions {
+    let mut next = ps;
+    if field == 6 {
+        next.spare = value as usize;
+        return next;
+    }
+    let place = (field % 10) as usize;
+    if 8 <= place {
+        return next;
+    }
+    let q = next.at[place];
+    let mut area = q.area;
+    let mut rows = q.rows;
+    let mut entries = q.entries;
+    if field < 20 {
+        area = value as usize;
+    } else if field < 30 {
+        rows = value as usize;
+    } else {
+        entries = value as usize;
+    }
+    next.at[place] = Partition { area: area, rows: rows, entries: entries };
+    next
+}
+
+fn entry(e: Entry, word: u64, value: u64) -> Entry {
+    let mut f = e;
+    match word {
+        0 => {
+            f.epoch = value;
+        }
+        1 => {
+            f.end = value as usize;
+        }
+        _ => {
+            f.mark = value;
+        }
+    }
+    f
+}
+
+// A word of the first or the second entry of the first area.
+fn entries(t: Table, field: u64, value: u64) -> Table {
+    let mut next = t;
+    let word = field % 10;
+    if word < 3 {
+        let e = entry(next.at[0], word, value);
+        next.at[0] = e;
+        return next;
+    }
+    let e = entry(next.at[1], word % 3, value);
+    next.at[1] = e;
+    next
+}
+
+pub fn poke(state: State, table: Table, field: u64, value: u64) -> Poked {
+    if 60 <= field {
+        let t = entries(table, field, value);
+        return Poked { state: state, table: t };
+    }
+    let mut s = state;
+    if field == 6 {
+        let ps = partitions(s.partitions, field, value);
+        s.partitions = ps;
+        return Poked { state: s, table: table };
+    }
+    if field < 10 {
+        let m = manager(s.manager, field, value);
+        s.manager = m;
+        return Poked { state: s, table: table };
+    }
+    if field < 40 {
+        let ps = partitions(s.partitions, field, value);
+        s.partitions = ps;
+        return Poked { state: s, table: table };
+    }
+    let m = manager(s.manager, field, value);
+    s.manager = m;
+    Poked { state: s, table: table }
+}
