@@ -21,9 +21,8 @@ lastLine (b ∷ bs) = (b ∷ bs) ∷ []
 abbrev pub sessionLines : List ℕ → List (List ℕ)
 sessionLines input = linesIn input ++ lastLine (restIn input)
 
--- the answers to chunks, after the held front of a line: of each, its whole lines, and its rest is held, cut where
--- the
--- line is too long
+-- the answers to chunks, after the held front of a line: of each, its whole lines, and its rest is held,
+-- cut where the line is too long
 unfoldable pub fed : List ℕ → List (List ℕ) → Store → List ℕ
 fed held [] st = answersTo (lastLine held) st
 fed held (c ∷ cs) st =
