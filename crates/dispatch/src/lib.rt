@@ -20,8 +20,17 @@ pub struct Turned {
 }
 
 // The batch is that of an append, and the bitmap that of a scan; other calls leave both alone.
-pub fn dispatch(state: State, entries: &mut [Entry], rows: &mut [u64], batch: &[u64], bitmap: &mut [u8], command: Command) -> Kept
-    ensures { λ r. ⌜ Did command (step (callOf command (now (batch .entry)) (now (bitmap .entry))) (storeOf state (now (rows .entry)) (now (entries .entry)))) r (now (rows .exit)) (now (entries .exit)) (now (bitmap .entry)) (now (bitmap .exit)) ⌝ }
+pub fn dispatch(
+    state: State,
+    entries: &mut [Entry],
+    rows: &mut [u64],
+    batch: &[u64],
+    bitmap: &mut [u8],
+    command: Command,
+) -> Kept
+    ensures { λ r. ⌜ Did command (step (callOf command (now (batch .entry)) (now (bitmap .entry)))
+        (storeOf state (now (rows .entry)) (now (entries .entry)))) r (now (rows .exit)) (now (entries .exit))
+        (now (bitmap .entry)) (now (bitmap .exit)) ⌝ }
 {
     match command {
         Command::Create { start } => store::create(state, entries, rows, start),
@@ -68,8 +77,17 @@ fn turned_of(kept: Kept, entries: [Entry; 576]) -> Turned
 }
 
 // The same with the entries by value, for callers that keep them so.
-pub fn turn(state: State, table: Table, rows: &mut [u64], batch: &[u64], bitmap: &mut [u8], command: Command) -> Turned
-    ensures { λ r. ⌜ Did command (step (callOf command (now (batch .entry)) (now (bitmap .entry))) (storeOf state (now (rows .entry)) (table .at))) (keptIn r) (now (rows .exit)) (r .table .at) (now (bitmap .entry)) (now (bitmap .exit)) ⌝ }
+pub fn turn(
+    state: State,
+    table: Table,
+    rows: &mut [u64],
+    batch: &[u64],
+    bitmap: &mut [u8],
+    command: Command,
+) -> Turned
+    ensures { λ r. ⌜ Did command (step (callOf command (now (batch .entry)) (now (bitmap .entry)))
+        (storeOf state (now (rows .entry)) (table .at))) (keptIn r) (now (rows .exit)) (r .table .at)
+        (now (bitmap .entry)) (now (bitmap .exit)) ⌝ }
 {
     let mut entries = entries_in(table);
     let kept = dispatch(state, &mut entries, rows, batch, bitmap, command);

@@ -71,7 +71,16 @@ fn print_answer(letter: u8, number: u64, value: u64, out: &mut [u8]) -> usize {
 }
 
 // A call so many times, and the last answer.
-fn repeat(state: State, table: Table, rows: &mut [u64], batch: &[u64], command: Command, letter: u8, count: u64, out: &mut [u8]) -> Said {
+fn repeat(
+    state: State,
+    table: Table,
+    rows: &mut [u64],
+    batch: &[u64],
+    command: Command,
+    letter: u8,
+    count: u64,
+    out: &mut [u8],
+) -> Said {
     let mut s = state;
     let mut t = table;
     let mut number = 0;
@@ -184,7 +193,17 @@ fn purge(state: State, table: Table, rows: &mut [u64], lot: u64, out: &mut [u8])
 }
 
 // A line of a small letter, and its first four numbers.
-fn edge(state: State, table: Table, rows: &mut [u64], letter: u8, a: u64, b: u64, c: u64, d: u64, out: &mut [u8]) -> Said {
+fn edge(
+    state: State,
+    table: Table,
+    rows: &mut [u64],
+    letter: u8,
+    a: u64,
+    b: u64,
+    c: u64,
+    d: u64,
+    out: &mut [u8],
+) -> Said {
     let none = [0u64; 0];
     let batch = [ROW; NUMBERS];
     if rows.len() < ROWS {
@@ -235,7 +254,15 @@ fn has_numbers(line: &[u8], numbers: &mut [u64]) -> bool {
 }
 
 // One line of the cases. Of a line of a small letter the letter was taken, and A put in its place.
-fn say(state: State, table: Table, letter: u8, line: &[u8], rows: &mut [u64], numbers: &mut [u64], out: &mut [u8]) -> Said {
+fn say(
+    state: State,
+    table: Table,
+    letter: u8,
+    line: &[u8],
+    rows: &mut [u64],
+    numbers: &mut [u64],
+    out: &mut [u8],
+) -> Said {
     if rows.len() < ROWS {
         return Said { state: state, table: table, size: 0 };
     }
@@ -268,7 +295,16 @@ fn as_append(letter: u8) -> u8 {
 }
 
 // The line from `used` on, among the first n bytes; one that starts with `#` is printed as it is.
-fn step(state: State, table: Table, input: &mut [u8], n: usize, used: usize, rows: &mut [u64], numbers: &mut [u64], out: &mut [u8]) -> Stepped {
+fn step(
+    state: State,
+    table: Table,
+    input: &mut [u8],
+    n: usize,
+    used: usize,
+    rows: &mut [u64],
+    numbers: &mut [u64],
+    out: &mut [u8],
+) -> Stepped {
     if input.len() < n {
         return Stepped { state: state, table: table, next: 0 };
     }

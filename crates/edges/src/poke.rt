@@ -11,13 +11,13 @@ use rules::RwTxn;
 use rules::RwTxns;
 use rules::State;
 
-pub struct Poked {
+pub(crate) struct Poked {
     pub state: State,
     pub table: Table,
 }
 
 // Before the first making new.
-pub fn blank() -> Poked {
+pub(crate) fn blank() -> Poked {
     let manager = txn::start::created(1);
     let at = [Partition {
         area: 0,
@@ -200,7 +200,7 @@ fn entries(t: Table, field: u64, value: u64) -> Table {
     next
 }
 
-pub fn poke(state: State, table: Table, field: u64, value: u64) -> Poked {
+pub(crate) fn poke(state: State, table: Table, field: u64, value: u64) -> Poked {
     if 60 <= field {
         let t = entries(table, field, value);
         return Poked { state: state, table: t };

@@ -1,5 +1,5 @@
-// Proved functions for callers in C and Rust: what the benchmark times. Each says what the functions say that it
-// calls.
+// Proved functions for callers in C and Rust: what the comparison with the model calls, and what the benchmark times. Each
+// says what the functions say that it calls.
 ghost use mathlib.Core.Path.{_≡_};
 ghost use Rattle.partition.specs.Rows.{putRows};
 ghost use Rattle.visible.specs.Scan.{scanned, bitmapScanned};

@@ -28,7 +28,8 @@ pub struct Kept {
 
 // Making new at epoch a. It reads no state and writes no lent word. Refusals, in this order: 5 (the lengths), 4.
 pub fn create(state: State, entries: &[Entry], rows: &[u64], a: u64) -> Kept
-    ensures { λ r. ⌜ Left (step (create a) (storeOf state (now (rows .entry)) (now (entries .entry)))) r (now (rows .entry)) (now (entries .entry)) ⌝ }
+    ensures { λ r. ⌜ Left (step (create a) (storeOf state (now (rows .entry)) (now (entries .entry))))
+        r (now (rows .entry)) (now (entries .entry)) ⌝ }
 {
     let n = entries.len();
     let m = rows.len();
@@ -38,7 +39,8 @@ pub fn create(state: State, entries: &[Entry], rows: &[u64], a: u64) -> Kept
 
 // Refusals, in this order: 5, 6, 7.
 pub fn begin(state: State, entries: &[Entry], rows: &[u64]) -> Kept
-    ensures { λ r. ⌜ Left (step begin (storeOf state (now (rows .entry)) (now (entries .entry)))) r (now (rows .entry)) (now (entries .entry)) ⌝ }
+    ensures { λ r. ⌜ Left (step begin (storeOf state (now (rows .entry)) (now (entries .entry))))
+        r (now (rows .entry)) (now (entries .entry)) ⌝ }
 {
     let n = entries.len();
     let m = rows.len();
@@ -48,7 +50,8 @@ pub fn begin(state: State, entries: &[Entry], rows: &[u64]) -> Kept
 
 // The rows of batch to partition p (01: lot), by transaction txn (01: load). Refusals, in this order: 5, 1, 2, 8, 9.
 pub fn append(state: State, entries: &mut [Entry], rows: &mut [u64], batch: &[u64], txn: u64, p: u64) -> Kept
-    ensures { λ r. ⌜ Left (step (append txn p (now (batch .entry))) (storeOf state (now (rows .entry)) (now (entries .entry)))) r (now (rows .exit)) (now (entries .exit)) ⌝ }
+    ensures { λ r. ⌜ Left (step (append txn p (now (batch .entry))) (storeOf state (now (rows .entry))
+        (now (entries .entry)))) r (now (rows .exit)) (now (entries .exit)) ⌝ }
 {
     let n = entries.len();
     let m = rows.len();
@@ -62,7 +65,8 @@ pub fn append(state: State, entries: &mut [Entry], rows: &mut [u64], batch: &[u6
 
 // A clearing of partition p by transaction txn. Refusals, in this order: 5, 1, 2, 9.
 pub fn clear(state: State, entries: &mut [Entry], rows: &mut [u64], txn: u64, p: u64) -> Kept
-    ensures { λ r. ⌜ Left (step (clear txn p) (storeOf state (now (rows .entry)) (now (entries .entry)))) r (now (rows .exit)) (now (entries .exit)) ⌝ }
+    ensures { λ r. ⌜ Left (step (clear txn p) (storeOf state (now (rows .entry)) (now (entries .entry))))
+        r (now (rows .exit)) (now (entries .exit)) ⌝ }
 {
     let n = entries.len();
     let m = rows.len();
@@ -75,7 +79,8 @@ pub fn clear(state: State, entries: &mut [Entry], rows: &mut [u64], txn: u64, p:
 
 // Refusals, in this order: 5, 2.
 pub fn commit(state: State, entries: &[Entry], rows: &[u64], a: u64) -> Kept
-    ensures { λ r. ⌜ Left (step (commit a) (storeOf state (now (rows .entry)) (now (entries .entry)))) r (now (rows .entry)) (now (entries .entry)) ⌝ }
+    ensures { λ r. ⌜ Left (step (commit a) (storeOf state (now (rows .entry)) (now (entries .entry))))
+        r (now (rows .entry)) (now (entries .entry)) ⌝ }
 {
     let n = entries.len();
     let m = rows.len();
@@ -85,7 +90,8 @@ pub fn commit(state: State, entries: &[Entry], rows: &[u64], a: u64) -> Kept
 
 // Rolling back transaction a in all partitions. Refusals, in this order: 5, 2.
 pub fn roll_back(state: State, entries: &mut [Entry], rows: &mut [u64], a: u64) -> Kept
-    ensures { λ r. ⌜ Left (step (rollback a) (storeOf state (now (rows .entry)) (now (entries .entry)))) r (now (rows .exit)) (now (entries .exit)) ⌝ }
+    ensures { λ r. ⌜ Left (step (rollback a) (storeOf state (now (rows .entry)) (now (entries .entry))))
+        r (now (rows .exit)) (now (entries .exit)) ⌝ }
 {
     let n = entries.len();
     let m = rows.len();
@@ -98,7 +104,8 @@ pub fn roll_back(state: State, entries: &mut [Entry], rows: &mut [u64], a: u64) 
 
 // Opening a page at epoch a; 0 means LCE. Refusals, in this order: 5, 4, 6, 7.
 pub fn begin_ro(state: State, entries: &[Entry], rows: &[u64], a: u64) -> Kept
-    ensures { λ r. ⌜ Left (step (beginRo a) (storeOf state (now (rows .entry)) (now (entries .entry)))) r (now (rows .entry)) (now (entries .entry)) ⌝ }
+    ensures { λ r. ⌜ Left (step (beginRo a) (storeOf state (now (rows .entry)) (now (entries .entry))))
+        r (now (rows .entry)) (now (entries .entry)) ⌝ }
 {
     let n = entries.len();
     let m = rows.len();
@@ -108,7 +115,8 @@ pub fn begin_ro(state: State, entries: &[Entry], rows: &[u64], a: u64) -> Kept
 
 // Closing a page. Refusals, in this order: 5, 2.
 pub fn end_ro(state: State, entries: &[Entry], rows: &[u64], a: u64) -> Kept
-    ensures { λ r. ⌜ Left (step (endRo a) (storeOf state (now (rows .entry)) (now (entries .entry)))) r (now (rows .entry)) (now (entries .entry)) ⌝ }
+    ensures { λ r. ⌜ Left (step (endRo a) (storeOf state (now (rows .entry)) (now (entries .entry))))
+        r (now (rows .entry)) (now (entries .entry)) ⌝ }
 {
     let n = entries.len();
     let m = rows.len();
@@ -118,7 +126,9 @@ pub fn end_ro(state: State, entries: &[Entry], rows: &[u64], a: u64) -> Kept
 
 // Transaction i scans partition p: a bit a row in bitmap. Refusals, in this order: 5, 1, 2, 3.
 pub fn scan_rw(state: State, entries: &[Entry], rows: &[u64], bitmap: &mut [u8], i: u64, p: u64) -> Answer
-    ensures { λ r. ⌜ Showed (step (scan (Rw i) p (now (bitmap .entry))) (storeOf state (now (rows .entry)) (now (entries .entry)))) r (now (bitmap .exit)) (storeOf state (now (rows .entry)) (now (entries .entry))) ⌝ }
+    ensures { λ r. ⌜ Showed (step (scan (Rw i) p (now (bitmap .entry))) (storeOf state (now (rows .entry))
+        (now (entries .entry)))) r (now (bitmap .exit)) (storeOf state (now (rows .entry))
+        (now (entries .entry))) ⌝ }
 {
     let n = entries.len();
     let m = rows.len();
@@ -131,7 +141,9 @@ pub fn scan_rw(state: State, entries: &[Entry], rows: &[u64], bitmap: &mut [u8],
 
 // The read-only transaction of ticket t scans partition p. Refusals, in this order: 5, 1, 2, 3.
 pub fn scan_ro(state: State, entries: &[Entry], rows: &[u64], bitmap: &mut [u8], t: u64, p: u64) -> Answer
-    ensures { λ r. ⌜ Showed (step (scan (Ro t) p (now (bitmap .entry))) (storeOf state (now (rows .entry)) (now (entries .entry)))) r (now (bitmap .exit)) (storeOf state (now (rows .entry)) (now (entries .entry))) ⌝ }
+    ensures { λ r. ⌜ Showed (step (scan (Ro t) p (now (bitmap .entry))) (storeOf state (now (rows .entry))
+        (now (entries .entry)))) r (now (bitmap .exit)) (storeOf state (now (rows .entry))
+        (now (entries .entry))) ⌝ }
 {
     let n = entries.len();
     let m = rows.len();
@@ -144,7 +156,8 @@ pub fn scan_ro(state: State, entries: &[Entry], rows: &[u64], bitmap: &mut [u8],
 
 // Moving LSE to a; 0 means as far as it may go. Refusals, in this order: 5, 4, 10.
 pub fn advance_lse(state: State, entries: &[Entry], rows: &[u64], a: u64) -> Kept
-    ensures { λ r. ⌜ Left (step (advanceLse a) (storeOf state (now (rows .entry)) (now (entries .entry)))) r (now (rows .entry)) (now (entries .entry)) ⌝ }
+    ensures { λ r. ⌜ Left (step (advanceLse a) (storeOf state (now (rows .entry)) (now (entries .entry))))
+        r (now (rows .entry)) (now (entries .entry)) ⌝ }
 {
     let n = entries.len();
     let m = rows.len();
@@ -154,7 +167,8 @@ pub fn advance_lse(state: State, entries: &[Entry], rows: &[u64], a: u64) -> Kep
 
 // Purging partition p at LSE. Refusals, in this order: 5, 1. rewrite::force::in_force returns the part in force.
 pub fn purge(state: State, entries: &mut [Entry], rows: &mut [u64], p: u64) -> Kept
-    ensures { λ r. ⌜ Left (step (purge p) (storeOf state (now (rows .entry)) (now (entries .entry)))) r (now (rows .exit)) (now (entries .exit)) ⌝ }
+    ensures { λ r. ⌜ Left (step (purge p) (storeOf state (now (rows .entry)) (now (entries .entry))))
+        r (now (rows .exit)) (now (entries .exit)) ⌝ }
 {
     let n = entries.len();
     let m = rows.len();
