@@ -18,8 +18,7 @@ pub fn begin_core(state: State, t: Table, n: usize, m: usize) -> Kept
     ensures { λ r. ⌜ r ≡ beginKept state t n m ⌝ }
 {
     let rest = sound::rest_ok(state, t, n, m);
-    let manager = state.manager;
-    let done = txn::begin(manager, rest);
+    let done = txn::begin(state.manager, rest);
     let next = done.manager;
     let mut after = state;
     after.manager = next;
@@ -31,8 +30,7 @@ pub fn commit_core(state: State, t: Table, n: usize, m: usize, a: u64) -> Kept
     ensures { λ r. ⌜ r ≡ commitKept state t n m a ⌝ }
 {
     let rest = sound::rest_ok(state, t, n, m);
-    let manager = state.manager;
-    let done = txn::commit(manager, rest, a);
+    let done = txn::commit(state.manager, rest, a);
     let next = done.manager;
     let mut after = state;
     after.manager = next;
@@ -44,8 +42,7 @@ pub fn begin_ro_core(state: State, t: Table, n: usize, m: usize, a: u64) -> Kept
     ensures { λ r. ⌜ r ≡ beginRoKept state t n m a ⌝ }
 {
     let rest = sound::rest_ok(state, t, n, m);
-    let manager = state.manager;
-    let done = txn::begin_ro(manager, rest, a);
+    let done = txn::begin_ro(state.manager, rest, a);
     let next = done.manager;
     let mut after = state;
     after.manager = next;
@@ -57,8 +54,7 @@ pub fn end_ro_core(state: State, t: Table, n: usize, m: usize, a: u64) -> Kept
     ensures { λ r. ⌜ r ≡ endRoKept state t n m a ⌝ }
 {
     let rest = sound::rest_ok(state, t, n, m);
-    let manager = state.manager;
-    let done = txn::end_ro(manager, rest, a);
+    let done = txn::end_ro(state.manager, rest, a);
     let next = done.manager;
     let mut after = state;
     after.manager = next;
@@ -70,8 +66,7 @@ pub fn advance_lse_core(state: State, t: Table, n: usize, m: usize, a: u64) -> K
     ensures { λ r. ⌜ r ≡ advanceLseKept state t n m a ⌝ }
 {
     let rest = sound::rest_ok(state, t, n, m);
-    let manager = state.manager;
-    let done = txn::advance_lse(manager, rest, a);
+    let done = txn::advance_lse(state.manager, rest, a);
     let next = done.manager;
     let mut after = state;
     after.manager = next;

@@ -40,9 +40,8 @@ pub fn roll_back_core(state: State, t: Table, n: usize, m: usize, i: u64) -> Rol
     ensures { λ r. ⌜ r ≡ rollBackOf state t n m i ⌝ }
 {
     let rest = sound::rest_ok(state, t, n, m);
-    let manager = state.manager;
     let places = state.partitions;
-    let done = txn::roll_back(manager, rest, i);
+    let done = txn::roll_back(state.manager, rest, i);
     let answer = done.answer;
     let todo = todo_of(answer);
     if todo == 0 {

@@ -50,13 +50,12 @@ fn scan_partition(t: Table, q: Partition, v: View, k: usize) -> Look
 pub fn rw_core(state: State, t: Table, n: usize, m: usize, k: usize, i: u64, p: u64) -> Look
     ensures { λ r. ⌜ r ≡ rwLook state t n m k i p ⌝ }
 {
-    let manager = state.manager;
-    let open = txn_find::has_open(manager, i);
+    let open = txn_find::has_open(state.manager, i);
     let admitted = admit(open, state, t, n, m, p);
     match admitted {
         Admitted::Not(why) => refused(why),
         Admitted::To(q) => {
-            let deps = txn_find::deps_at(manager, i);
+            let deps = txn_find::deps_at(state.manager, i);
             let v = View { epoch: i, rw: 1, deps: deps };
             scan_partition(t, q, v, k)
         }
@@ -67,13 +66,12 @@ pub fn rw_core(state: State, t: Table, n: usize, m: usize, k: usize, i: u64, p: 
 pub fn ro_core(state: State, t: Table, n: usize, m: usize, k: usize, i: u64, p: u64) -> Look
     ensures { λ r. ⌜ r ≡ roLook state t n m k i p ⌝ }
 {
-    let manager = state.manager;
-    let open = txn_find::has_reader(manager, i);
+    let open = txn_find::has_reader(state.manager, i);
     let admitted = admit(open, state, t, n, m, p);
     match admitted {
         Admitted::Not(why) => refused(why),
         Admitted::To(q) => {
-            let epoch = txn_find::epoch_at(manager, i);
+            let epoch = txn_find::epoch_at(state.manager, i);
             let v = visible::page(epoch);
             scan_partition(t, q, v, k)
         }

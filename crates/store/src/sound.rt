@@ -24,9 +24,7 @@ pub fn rest_ok(state: State, t: Table, n: usize, m: usize) -> bool
     if !lengths_ok(n, m) {
         return false;
     }
-    let manager = state.manager;
-    let partitions = state.partitions;
-    partition::sound::partitions_ok(manager, partitions, t)
+    partition::sound::partitions_ok(state.manager, state.partitions, t)
 }
 
 // 01's *sound*, over the whole store.
@@ -36,6 +34,5 @@ pub fn is_sound(state: State, t: Table, n: usize, m: usize) -> bool
     if !rest_ok(state, t, n, m) {
         return false;
     }
-    let manager = state.manager;
-    txn_sound::manager_ok(manager)
+    txn_sound::manager_ok(state.manager)
 }

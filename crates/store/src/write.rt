@@ -70,8 +70,7 @@ fn planned(state: State, p: usize, q: Partition, plan: Plan, answer: Answer) -> 
 fn is_open(state: State, i: u64) -> bool
     ensures { λ r. ⌜ r ≡ hasOpen i (state .manager) ⌝ }
 {
-    let manager = state.manager;
-    txn_find::has_open(manager, i)
+    txn_find::has_open(state.manager, i)
 }
 
 // k rows by transaction i to partition p, which is q, on a sound store.

@@ -175,15 +175,13 @@ fn writers_unused(ts: RwTxns) -> bool
 fn writers_ok(m: Manager) -> bool
     ensures { λ r. ⌜ r ≡ writersOk m ⌝ }
 {
-    let ts = m.writers;
-    if WRITERS_MAX < ts.count {
+    if WRITERS_MAX < m.writers.count {
         return false;
     }
-    let c = m.clock;
-    if !writers_ranked(ts, c) {
+    if !writers_ranked(m.writers, m.clock) {
         return false;
     }
-    writers_unused(ts)
+    writers_unused(m.writers)
 }
 
 // ---- read-only transactions

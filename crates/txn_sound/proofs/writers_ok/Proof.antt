@@ -19,7 +19,7 @@ writers-ranked-requires c κs = search needs
 returns-2 : tie.Need-returns-2
 unfolding writersOk
 returns-2 c =
-    let c3 = c .before .before .before in let c6 = c3 .before .before .before in
+    let c3 = c .before .before in let c6 = c3 .before .before in
     let m = c6 .args .m in
     let e = sym (writers-ranked-is (m .clock) (writersOf m)) ∙ sym (c .before .writers-ranked .ensures)
       ∙ not-true _ (c .if2 .taken) in
@@ -31,7 +31,7 @@ writers-unused-requires c κs = search needs
 returns-3 : tie.Need-returns-3
 unfolding writersOk
 returns-3 c =
-    let c2 = c .before .before in let c4 = c2 .before .before in let c7 = c4 .before .before .before in
+    let c2 = c .before .before in let c4 = c2 .before in let c7 = c4 .before .before in
     let m = c7 .args .m in
     let e = sym (writers-ranked-is (m .clock) (writersOf m)) ∙ sym (c2 .writers-ranked .ensures)
       ∙ not-false _ (c .before .if2 .left) in

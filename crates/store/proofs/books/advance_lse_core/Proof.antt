@@ -10,7 +10,7 @@ advance-lse-requires : tie.Need-advance-lse-requires
 advance-lse-requires c κs = search needs
 
 returns : tie.Need-returns
-returns c = rw (c .before .advance-lse .ensures, c .before .before .before .rest-ok .ensures)
+returns c = rw (c .before .advance-lse .ensures, c .before .before .rest-ok .ensures)
 
 pub advance-lse-core-spec : {M : Type 1} → statement M
 advance-lse-core-spec = tie.close (tie.spec rest-ok-requires advance-lse-requires returns)

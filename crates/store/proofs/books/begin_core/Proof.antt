@@ -10,7 +10,7 @@ begin-requires : tie.Need-begin-requires
 begin-requires c κs = search needs
 
 returns : tie.Need-returns
-returns c = rw (c .before .begin .ensures, c .before .before .before .rest-ok .ensures)
+returns c = rw (c .before .begin .ensures, c .before .before .rest-ok .ensures)
 
 pub begin-core-spec : {M : Type 1} → statement M
 begin-core-spec = tie.close (tie.spec rest-ok-requires begin-requires returns)

@@ -10,7 +10,7 @@ begin-ro-requires : tie.Need-begin-ro-requires
 begin-ro-requires c κs = search needs
 
 returns : tie.Need-returns
-returns c = rw (c .before .begin-ro .ensures, c .before .before .before .rest-ok .ensures)
+returns c = rw (c .before .begin-ro .ensures, c .before .before .rest-ok .ensures)
 
 pub begin-ro-core-spec : {M : Type 1} → statement M
 begin-ro-core-spec = tie.close (tie.spec rest-ok-requires begin-ro-requires returns)

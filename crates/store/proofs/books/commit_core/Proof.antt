@@ -10,7 +10,7 @@ commit-requires : tie.Need-commit-requires
 commit-requires c κs = search needs
 
 returns : tie.Need-returns
-returns c = rw (c .before .commit .ensures, c .before .before .before .rest-ok .ensures)
+returns c = rw (c .before .commit .ensures, c .before .before .rest-ok .ensures)
 
 pub commit-core-spec : {M : Type 1} → statement M
 commit-core-spec = tie.close (tie.spec rest-ok-requires commit-requires returns)

@@ -10,7 +10,7 @@ end-ro-requires : tie.Need-end-ro-requires
 end-ro-requires c κs = search needs
 
 returns : tie.Need-returns
-returns c = rw (c .before .end-ro .ensures, c .before .before .before .rest-ok .ensures)
+returns c = rw (c .before .end-ro .ensures, c .before .before .rest-ok .ensures)
 
 pub end-ro-core-spec : {M : Type 1} → statement M
 end-ro-core-spec = tie.close (tie.spec rest-ok-requires end-ro-requires returns)

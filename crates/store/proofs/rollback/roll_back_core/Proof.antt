@@ -33,7 +33,7 @@ returns : tie.Need-returns
 unfolding rollBackOf
 returns c =
     let r = c .before .before .roll-back in let d = c .before .todo-of in
-    let e = rw (c .before .before .before .before .before .rest-ok .ensures) at (r .ensures) in
+    let e = rw (c .before .before .before .before .rest-ok .ensures) at (r .ensures) in
     rw (e, sym (ap (λ (x : Managed). accepted (x .answer)) e) ∙ refused-of _ (sym (d .ensures) ∙ c .if1 .taken))
 
 roll-requires : tie.Need-roll-requires
@@ -44,7 +44,7 @@ unfolding rollBackOf
 returns-2 c =
     let k = c .before .before in let t = k .before .before in
     let r = t .before .before .roll-back in let d = t .before .todo-of in
-    let e = rw (t .before .before .before .before .before .rest-ok .ensures) at (r .ensures) in
+    let e = rw (t .before .before .before .before .rest-ok .ensures) at (r .ensures) in
     rw (k .roll .ensures, e, sym (ap (λ (x : Managed). accepted (x .answer)) e)
       ∙ accepted-of _ (λ z. t .if1 .left (d .ensures ∙ z)))
 

@@ -16,7 +16,7 @@ manager-ok-requires c κs = search needs
 
 returns-2 : tie.Need-returns-2
 returns-2 c =
-    let e = c .before .before in
+    let e = c .before in
     rw (c .manager-ok .ensures, sym (e .before .rest-ok .ensures) ∙ not-false _ (e .if1 .left))
 
 pub is-sound-spec : {M : Type 1} → statement M

@@ -19,7 +19,7 @@ partitions-ok-requires c κs = search needs
 returns-2 : tie.Need-returns-2
 unfolding restOk
 returns-2 c =
-    let e = c .before .before .before in
+    let e = c .before in
     rw (c .partitions-ok .ensures, sym (e .before .lengths-ok .ensures) ∙ not-false _ (e .if1 .left))
 
 pub rest-ok-spec : {M : Type 1} → statement M
