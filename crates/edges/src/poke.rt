@@ -18,7 +18,7 @@ pub(crate) struct Poked {
 
 // Before the first making new.
 pub(crate) fn blank() -> Poked {
-    let manager = txn::start::created(1);
+    let manager = txn_start::created(1);
     let at = [Partition {
         area: 0,
         rows: 0,

@@ -29,9 +29,9 @@ pub extern "C" fn nizgulk_begin_commit(m: Manager) -> Manager
     ensures { λ r. ⌜ r ≡ begunThenCommitted m ⌝ }
 {
     let e = m.clock.ec;
-    let begun = txn::begin(m, true);
+    let begun = txn_start::begin(m, true);
     let between = begun.manager;
-    let committed = txn::commit(between, true, e);
+    let committed = txn_close::commit(between, true, e);
     let after = committed.manager;
     after
 }

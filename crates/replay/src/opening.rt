@@ -15,7 +15,7 @@ pub fn start(rows: &mut [u64]) -> Turned
     ensures store { λ r. ⌜ storeOf (r .state) (now (rows .exit)) (r .table .at)
       ≡ started (now (rows .entry)) .store ⌝ }
 {
-    let manager = txn::start::created(1);
+    let manager = txn_start::created(1);
     let at = [Partition {
         area: 0,
         rows: 0,

@@ -18,7 +18,7 @@ pub fn begin_core(state: State, t: Table, n: usize, m: usize) -> Kept
     ensures { λ r. ⌜ r ≡ beginKept state t n m ⌝ }
 {
     let rest = sound::rest_ok(state, t, n, m);
-    let done = txn::begin(state.manager, rest);
+    let done = txn_start::begin(state.manager, rest);
     let next = done.manager;
     let mut after = state;
     after.manager = next;
@@ -30,7 +30,7 @@ pub fn commit_core(state: State, t: Table, n: usize, m: usize, a: u64) -> Kept
     ensures { λ r. ⌜ r ≡ commitKept state t n m a ⌝ }
 {
     let rest = sound::rest_ok(state, t, n, m);
-    let done = txn::commit(state.manager, rest, a);
+    let done = txn_close::commit(state.manager, rest, a);
     let next = done.manager;
     let mut after = state;
     after.manager = next;
@@ -42,7 +42,7 @@ pub fn begin_ro_core(state: State, t: Table, n: usize, m: usize, a: u64) -> Kept
     ensures { λ r. ⌜ r ≡ beginRoKept state t n m a ⌝ }
 {
     let rest = sound::rest_ok(state, t, n, m);
-    let done = txn::begin_ro(state.manager, rest, a);
+    let done = txn_read::begin_ro(state.manager, rest, a);
     let next = done.manager;
     let mut after = state;
     after.manager = next;
@@ -54,7 +54,7 @@ pub fn end_ro_core(state: State, t: Table, n: usize, m: usize, a: u64) -> Kept
     ensures { λ r. ⌜ r ≡ endRoKept state t n m a ⌝ }
 {
     let rest = sound::rest_ok(state, t, n, m);
-    let done = txn::end_ro(state.manager, rest, a);
+    let done = txn_read::end_ro(state.manager, rest, a);
     let next = done.manager;
     let mut after = state;
     after.manager = next;
@@ -66,7 +66,7 @@ pub fn advance_lse_core(state: State, t: Table, n: usize, m: usize, a: u64) -> K
     ensures { λ r. ⌜ r ≡ advanceLseKept state t n m a ⌝ }
 {
     let rest = sound::rest_ok(state, t, n, m);
-    let done = txn::advance_lse(state.manager, rest, a);
+    let done = txn_safe::advance_lse(state.manager, rest, a);
     let next = done.manager;
     let mut after = state;
     after.manager = next;
@@ -132,7 +132,7 @@ pub fn create_core(state: State, t: Table, n: usize, m: usize, a: u64) -> Kept
     let Start::At(first) = Epoch::new(a) else {
         return Kept { answer: Answer::Refused(Refusal::OutOfRange), state: state };
     };
-    let next = txn::start::created(first.number);
+    let next = txn_start::created(first.number);
     let partitions = fresh();
     let after = State { manager: next, partitions: partitions };
     Kept { answer: Answer::Created, state: after }

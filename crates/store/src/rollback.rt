@@ -41,7 +41,7 @@ pub fn roll_back_core(state: State, t: Table, n: usize, m: usize, i: u64) -> Rol
 {
     let rest = sound::rest_ok(state, t, n, m);
     let places = state.partitions;
-    let done = txn::roll_back(state.manager, rest, i);
+    let done = txn_close::roll_back(state.manager, rest, i);
     let answer = done.answer;
     let todo = todo_of(answer);
     if todo == 0 {

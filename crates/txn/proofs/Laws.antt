@@ -1,5 +1,2 @@
-pub mod Books
-pub mod Begin
+pub mod Records
 pub mod Cut
-pub mod Close
-pub mod Settle

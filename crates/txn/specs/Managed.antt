@@ -2,11 +2,9 @@
 -- nothing.
 -- Assumes nothing.
 use mathlib.Core.Bool.{cond}
-use Prim.Native.Nat.{ℕ}
-use Rattle.rules.specs.Manager.{withClock, withLse}
 use Rattle.rules.specs.Answers.{accepted}
 use Rattle.rules.specs.declared.Answer.{Answer}
-use Rattle.rules.specs.declared.Answer.the-variants.{AdvancedLse, Refused}
+use Rattle.rules.specs.declared.Answer.the-variants.{Refused}
 use Rattle.rules.specs.declared.Refusal.{Refusal}
 use Rattle.rules.specs.declared.Manager.{Manager}
 use Rattle.txn.specs.declared.Managed.{Managed}
@@ -17,7 +15,3 @@ managed a next m = record { answer = a; manager = cond (accepted a) next m }
 
 abbrev pub refusedWith : Refusal → Manager → Managed
 refusedWith why m = record { answer = Refused why; manager = m }
-
--- LSE moved to t
-abbrev pub movedTo : ℕ → Manager → Managed
-movedTo t m = record { answer = AdvancedLse t; manager = withClock (withLse t (m .clock)) m }

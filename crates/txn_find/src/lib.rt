@@ -1,14 +1,16 @@
 // Where a transaction stands in the manager. 01 "Refusals that come from the input", 2.
 use rules::Deps;
 use rules::Manager;
+use rules::RoTxn;
 use rules::RoTxns;
+use rules::RwTxn;
 use rules::RwTxns;
 ghost use mathlib.Core.Path.{_≡_};
 ghost use mathlib.Core.Bool.{_&&_};
 ghost use Prim.Native.Nat.{min};
 ghost use lib.Dec.{eqb};
 ghost use Rattle.lists.specs.Lists.{firstOf};
-ghost use Rattle.rules.specs.Manager.{opens, noRw, noDeps, writersOf, hasOpen, hasReader, epochAt};
+ghost use Rattle.rules.specs.Manager.{opens, noRw, noRo, noDeps, writersOf, hasOpen, hasReader, epochAt};
 ghost use Rattle.txn_find.specs.Find.{writerAt, readerAt};
 
 // The numbers of 01 that the manager keeps to; rules/specs/Limits.antt has each under its own name.
@@ -74,6 +76,27 @@ pub fn no_deps() -> Deps
     Deps {
         at: [0; DEPS_MAX],
         count: 0,
+    }
+}
+
+// What stands in an unused place.
+pub fn no_rw() -> RwTxn
+    ensures { λ r. ⌜ r ≡ noRw ⌝ }
+{
+    let d = no_deps();
+    RwTxn {
+        epoch: 0,
+        waiting: 0,
+        deps: d,
+    }
+}
+
+pub fn no_ro() -> RoTxn
+    ensures { λ r. ⌜ r ≡ noRo ⌝ }
+{
+    RoTxn {
+        ticket: 0,
+        epoch: 0,
     }
 }
 

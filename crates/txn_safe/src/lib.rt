@@ -1,21 +1,30 @@
-// How far LSE may move. 01 "The books", Move LSE; 004 III-C 5.
+// Moving LSE, and how far it may move, on the manager by value. 01 "The books", Move LSE; 004 III-C 5.
 use epoch::predecessor;
+use rules::Answer;
 use rules::Deps;
 use rules::Manager;
+use rules::Refusal;
 use rules::RoTxns;
 use rules::RwTxns;
+use txn::Managed;
+use txn::is_sound;
+use txn::refused;
 use txn_find::DEPS_MAX;
 use txn_find::READERS_MAX;
 use txn_find::WRITERS_MAX;
 use txn_find::least;
+ghost use mathlib.Core.Bool.{_&&_};
 ghost use mathlib.Core.List.{map, foldr};
 ghost use mathlib.Core.Path.{_≡_};
 ghost use Prim.Native.Nat.{min, _-_};
 ghost use lib.Dec.{ltb};
 ghost use lib.ListN.{take};
 ghost use Rattle.lists.specs.Lists.{anyOf, gather};
-ghost use Rattle.rules.specs.Safe.{blocked, greatestTarget};
-ghost use Rattle.txn_safe.specs.Safe.{depBlocks, underDeps};
+ghost use Rattle.rules.specs.Safe.{blocked, greatestTarget, advancedManager};
+ghost use Rattle.rules.specs.WellFormed.{managerOk};
+ghost use Rattle.rules.specs.Calls.{advanceLseAnswer};
+ghost use Rattle.txn.specs.Managed.{managed};
+ghost use Rattle.txn_safe.specs.Safe.{depBlocks, underDeps, movedTo};
 
 // 01: held. An open transaction has an epoch at or below t in its deps, closed since or not.
 fn dep_blocks(ts: RwTxns, t: u64) -> bool
@@ -128,4 +137,37 @@ pub fn greatest(m: Manager) -> u64
     let ts = m.writers;
     let ps = m.readers;
     under_readers(ps, under_writers(ts, m.clock.lce))
+}
+
+fn moved_to(m: Manager, t: u64) -> Managed
+    ensures { λ r. ⌜ r ≡ movedTo t m ⌝ }
+{
+    let mut next = m;
+    next.clock.lse = t;
+    Managed {
+        answer: Answer::AdvancedLse { lse: t },
+        manager: next,
+    }
+}
+
+// Moving LSE to t; the value 0 means as far as it may go, which is never refused. Refusals, in this order: 5, 4, 10.
+pub fn advance_lse(m: Manager, rest: bool, t: u64) -> Managed
+    ensures { λ r. ⌜ r ≡ managed (advanceLseAnswer t (rest && managerOk m) m) (advancedManager t m) m ⌝ }
+{
+    if !is_sound(m, rest) {
+        return refused(m, Refusal::Unsound);
+    }
+    if t == 0 {
+        return moved_to(m, greatest(m));
+    }
+    if t < m.clock.lse {
+        return refused(m, Refusal::OutOfRange);
+    }
+    if m.clock.lce < t {
+        return refused(m, Refusal::OutOfRange);
+    }
+    if is_blocked(m, t) {
+        return refused(m, Refusal::Blocked);
+    }
+    moved_to(m, t)
 }

@@ -1,5 +1,5 @@
--- Elements taken out of a list, and the one that a test finds. Definitions: specs/Close.antt,
--- specs/Find.antt.
+-- Elements taken out of a list, and the one that a test finds. Definitions: specs/Records.antt,
+-- txn_find/specs/Find.antt.
 -- In order: the only element that passes, dropped or changed; taking out of an array in place.
 -- Assumes nothing.
 use mathlib.Core.Path.{_≡_, refl, sym, ap, subst, _∙_}
@@ -16,7 +16,7 @@ use Rattle.lists.specs.Lists.{keepIf, rises, pad}
 use Rattle.lists.proofs.Laws.Bools.{split}
 use Rattle.lists.proofs.Laws.Order.{rises-split}
 use Rattle.lists.proofs.Laws.Parts.{drop-pad}
-use Rattle.txn.specs.Close.{cut}
+use Rattle.txn.specs.Records.{cut}
 use Rattle.txn_find.specs.Find.{findFrom}
 use Rattle.txn_find.specs.declared.Found.the-variants.{At}
 use Rattle.txn_find.proofs.Laws.Scan.{length-pad}
