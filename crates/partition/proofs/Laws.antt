@@ -1,10 +1,5 @@
 pub mod Append
-pub mod Areas
-pub mod Collect
-pub mod Follows
 pub mod Places
 pub mod Plan
 pub mod Rows
-pub mod Sound
-pub mod Steps
 pub mod Written

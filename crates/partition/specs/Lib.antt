@@ -1,4 +1,3 @@
 pub mod Append
 pub mod Areas
 pub mod Rows
-pub mod Sound

@@ -1,13 +1,9 @@
-// The nine areas and who has which. 01 "Lots", and "Refusals that come from the state", the areas shared out once.
-use crate::limits::AREAS;
+// A partition put in its place. 01 "Lots".
 use crate::limits::PARTITIONS;
-use crate::numbers::all_below;
-use crate::numbers::all_differ;
 use rules::Partition;
 use rules::Partitions;
 ghost use mathlib.Core.Path.{_≡_};
-ghost use Rattle.rules.specs.WellFormed.{areasOk};
-ghost use Rattle.partition.specs.Areas.{withPartition, areasOf};
+ghost use Rattle.partition.specs.Areas.{withPartition};
 
 // The partitions with q in place p; a place that there is not changes nothing.
 pub fn with_partition(ps: Partitions, p: usize, q: Partition) -> Partitions
@@ -18,32 +14,4 @@ pub fn with_partition(ps: Partitions, p: usize, q: Partition) -> Partitions
         next.at[p] = q;
     }
     next
-}
-
-// The spare area, then the partitions' areas.
-fn areas_of(ps: Partitions) -> [u64; 9]
-    ensures { λ r. ⌜ r ≡ areasOf ps ⌝ }
-{
-    [
-        ps.spare as u64,
-        ps.at[0].area as u64,
-        ps.at[1].area as u64,
-        ps.at[2].area as u64,
-        ps.at[3].area as u64,
-        ps.at[4].area as u64,
-        ps.at[5].area as u64,
-        ps.at[6].area as u64,
-        ps.at[7].area as u64,
-    ]
-}
-
-// The nine areas are shared out once.
-pub fn areas_ok(ps: Partitions) -> bool
-    ensures { λ r. ⌜ r ≡ areasOk ps ⌝ }
-{
-    let areas = areas_of(ps);
-    if all_below(&areas, AREAS as u64) {
-        return all_differ(&areas);
-    }
-    false
 }

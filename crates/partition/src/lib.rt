@@ -1,19 +1,11 @@
-// Partitions (01: lots) over tables kept by value: the soundness test, append and clear. 01 "Lots"; 004 III-C 1, 2.
+// Partitions (01: lots) over tables kept by value: append and clear. 01 "Lots"; 004 III-C 1, 2.
 // What a call writes into the lent areas is one entry and a batch of rows; a plan says which and where.
 use rules::Entry;
 
 pub mod append;
 pub mod areas;
 mod limits;
-mod numbers;
 pub mod rows;
-pub mod sound;
-
-// The epochs of the read-write transactions (01: loads) that have a record.
-pub struct Epochs {
-    pub at: [u64; 32],
-    pub count: usize,
-}
 
 // What there is no room for: the rows (01: 8), an entry that is needed (01: 9).
 pub struct Full {

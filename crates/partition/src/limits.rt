@@ -1,6 +1,4 @@
-// The numbers of 01 that this crate tests: rules' writersMax, partitionsMax, areasMax, rowsMax and entriesMax.
-pub const WRITERS: usize = 32;
-
+// The numbers of 01 that this crate tests: rules' partitionsMax, areasMax, rowsMax and entriesMax.
 pub const PARTITIONS: usize = 8;
 
 pub const AREAS: usize = 9;

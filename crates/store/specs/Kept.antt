@@ -24,7 +24,7 @@ use Rattle.rules.specs.declared.Manager.{Manager}
 use Rattle.rules.specs.declared.Partitions.{Partitions}
 use Rattle.rules.specs.declared.State.{State}
 use Rattle.lent.specs.declared.Table.{Table}
-use Rattle.partition.specs.Sound.{partitionsOk}
+use Rattle.partition_sound.specs.Sound.{partitionsOk}
 use Rattle.store.specs.declared.Kept.{Kept}
 
 -- the store of the books and the lent areas

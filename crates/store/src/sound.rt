@@ -24,7 +24,7 @@ pub fn rest_ok(state: State, t: Table, n: usize, m: usize) -> bool
     if !lengths_ok(n, m) {
         return false;
     }
-    partition::sound::partitions_ok(state.manager, state.partitions, t)
+    partition_sound::partitions_ok(state.manager, state.partitions, t)
 }
 
 // 01's *sound*, over the whole store.

@@ -26,7 +26,7 @@ use Rattle.rules.specs.declared.Manager.{Manager}
 use Rattle.rules.specs.declared.State.{State}
 use Rattle.lent.specs.Entries.{tableOf}
 use Rattle.lent.proofs.Lists.{filled-all}
-use Rattle.partition.proofs.Laws.Sound.{wellFormed-is}
+use Rattle.partition_sound.proofs.Laws.Sound.{wellFormed-is}
 use Rattle.store.specs.Kept.{storeOf, Left, lengthsAre, restOk, freshPartitions, createKept, keptOf}
 use Rattle.store.specs.Kept.{soundOf, beginKept}
 use Rattle.store.specs.Kept.{commitKept, beginRoKept, endRoKept, advanceLseKept}
