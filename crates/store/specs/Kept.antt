@@ -1,20 +1,16 @@
--- What a call by value keeps, and what a public call leaves, beside rules' step. 01 "Refusals": 5 by the
--- whole of *sound*.
--- In order: storeOf, Left, restOk, the calls on the manager. Laws: proofs/Laws/Kept.antt.
+-- What a call by value keeps, and what a public call leaves, beside rules' step.
+-- In order: storeOf, Left, the calls on the manager. Laws: proofs/Laws/Kept.antt.
 -- Assumes nothing.
 use mathlib.Core.Path.{_≡_}
-use mathlib.Core.Bool.{Bool, _&&_, cond}
+use mathlib.Core.Bool.{cond}
 use mathlib.Core.List.{List, []}
-use Prim.Native.Nat.{ℕ, _*_}
-use lib.Dec.{eqb}
-use Rattle.rules.specs.Limits.{rowsMax, entriesMax, areasMax}
+use Prim.Native.Nat.{ℕ}
 use Rattle.rules.specs.Begin.{createdManager, begunManager}
 use Rattle.rules.specs.Close.{committedManager}
 use Rattle.rules.specs.ReadOnly.{begunRoManager, endedRoManager}
 use Rattle.rules.specs.Safe.{advancedManager}
 use Rattle.rules.specs.Store.{Store, createdStore}
 use Rattle.rules.specs.Answers.{accepted}
-use Rattle.rules.specs.WellFormed.{managerOk}
 use Rattle.rules.specs.Calls.{createAnswer, beginAnswer, closeAnswer, beginRoAnswer, endRoAnswer}
 use Rattle.rules.specs.Calls.{advanceLseAnswer}
 use Rattle.rules.specs.Step.{Outcome}
@@ -24,7 +20,7 @@ use Rattle.rules.specs.declared.Manager.{Manager}
 use Rattle.rules.specs.declared.Partitions.{Partitions}
 use Rattle.rules.specs.declared.State.{State}
 use Rattle.lent.specs.declared.Table.{Table}
-use Rattle.partition_sound.specs.Sound.{partitionsOk}
+use Rattle.admit.specs.Sound.{lengthsAre, soundOf}
 use Rattle.store.specs.declared.Kept.{Kept}
 
 -- the store of the books and the lent areas
@@ -34,14 +30,6 @@ storeOf s rows entries = record { state = s; rows = rows; entries = entries }
 -- a call answers what step says; the books that it hands back, and the lent areas at its end, are step's store
 abbrev pub Left : Outcome → Kept → List ℕ → List Entry → Type 0
 Left out r rows entries = (r .answer ≡ out .answer) × (storeOf (r .state) rows entries ≡ out .store)
-
--- m rows and n entries are lent
-unfoldable pub lengthsAre : ℕ → ℕ → Bool
-lengthsAre n m = eqb m (rowsMax * areasMax) && eqb n (entriesMax * areasMax)
-
--- *sound* but for the manager: es are the entries
-unfoldable pub restOk : State → List Entry → ℕ → ℕ → Bool
-restOk s es n m = lengthsAre n m && partitionsOk (s .manager) es (s .partitions)
 
 -- partition p in area p, all empty, and the last area spare
 unfoldable pub freshPartitions : Partitions
@@ -55,9 +43,6 @@ freshPartitions = createdStore 1 (record {
 abbrev pub keptOf : Answer → Manager → State → Kept
 keptOf a next s =
     record { answer = a; state = record { manager = cond (accepted a) next (s .manager); partitions = s .partitions } }
-
-abbrev pub soundOf : State → Table → ℕ → ℕ → Bool
-soundOf s t n m = restOk s (t .at) n m && managerOk (s .manager)
 
 -- making new reads no state
 abbrev pub createKept : State → Table → ℕ → ℕ → ℕ → Kept

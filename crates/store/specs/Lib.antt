@@ -1,5 +1,4 @@
 pub mod Kept
-pub mod Admit
 pub mod Write
 pub mod Purge
 pub mod Scan

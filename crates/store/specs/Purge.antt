@@ -20,7 +20,7 @@ use Rattle.rewrite.specs.Kept.{rewrittenOf}
 use Rattle.visible.specs.declared.Area.{Area}
 use Rattle.rewrite.specs.declared.Plan.{Plan}
 use Rattle.compact.specs.Areas.{baseOf, areaAt, movedTo}
-use Rattle.store.specs.Admit.{admitted, byAdmission}
+use Rattle.admit.specs.Admit.{admitted, byAdmission}
 use Rattle.store.specs.declared.Kept.{Kept}
 use Rattle.store.specs.declared.purging.Purge.{Purge}
 

@@ -15,7 +15,7 @@ use Rattle.rules.specs.declared.State.{State}
 use Rattle.lent.specs.declared.Table.{Table}
 use Rattle.undo.specs.Rolled.{rolledOf, rolledBelow, rowsRolledBelow}
 use Rattle.undo.specs.declared.Rolled.{Rolled}
-use Rattle.store.specs.Kept.{soundOf}
+use Rattle.admit.specs.Sound.{soundOf}
 use Rattle.store.specs.declared.Kept.{Kept}
 use Rattle.store.specs.declared.rollback.RollBack.{RollBack}
 

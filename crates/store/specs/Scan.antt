@@ -26,7 +26,7 @@ use Rattle.visible.specs.declared.View.{View}
 use Rattle.visible.specs.View.{pageView}
 use Rattle.visible.specs.Scan.{scanned, bitmapScanned}
 use Rattle.compact.specs.Areas.{areaAt}
-use Rattle.store.specs.Admit.{admitted, byAdmission}
+use Rattle.admit.specs.Admit.{admitted, byAdmission}
 use Rattle.store.specs.declared.scan.Look.{Look}
 
 -- a scan answers what step says and leaves these bytes; the store st that it read is step's at the end too

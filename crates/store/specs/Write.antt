@@ -17,7 +17,7 @@ use Rattle.lent.specs.declared.Table.{Table}
 use Rattle.partition.specs.Areas.{withPartition}
 use Rattle.partition.specs.Append.{appendPlan, clearPlan}
 use Rattle.partition.specs.declared.Plan.{Plan}
-use Rattle.store.specs.Admit.{admitted, byAdmission}
+use Rattle.admit.specs.Admit.{admitted, byAdmission}
 use Rattle.store.specs.declared.Kept.{Kept}
 use Rattle.store.specs.declared.write.Write.{Write}
 

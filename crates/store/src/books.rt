@@ -3,8 +3,8 @@ ghost use mathlib.Core.Path.{_≡_};
 ghost use Rattle.store.specs.Kept.{freshPartitions, createKept, beginKept, commitKept};
 ghost use Rattle.store.specs.Kept.{beginRoKept, endRoKept, advanceLseKept};
 
-use crate::sound;
 use crate::Kept;
+use admit::sound;
 use epoch::Epoch;
 use epoch::Start;
 use lent::Table;

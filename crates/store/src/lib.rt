@@ -11,13 +11,10 @@ use rules::Answer;
 use rules::Entry;
 use rules::State;
 
-mod admit;
 mod books;
-mod limits;
 mod purging;
 mod rollback;
 mod scan;
-mod sound;
 mod write;
 
 // What a call answers, and the books after it.

@@ -4,11 +4,10 @@ ghost use Rattle.lent.specs.Shapes.{saved};
 ghost use Rattle.rewrite.specs.Copied.{rowsCopied};
 ghost use Rattle.store.specs.Purge.{unwrittenPurge, movedPurge, purgeAt, purgePlan, placeOf, newOf, donePurge};
 
-use crate::admit::Admitted;
-use crate::admit::admit;
-use crate::limits::ENTRIES;
-use crate::limits::ENTRIES_LENT;
 use crate::Kept;
+use admit::Admitted;
+use admit::admit;
+use admit::limits::ENTRIES_LENT;
 use lent::Table;
 use rewrite::Plan;
 use rules::Answer;
@@ -16,6 +15,9 @@ use rules::Entry;
 use rules::Partition;
 use rules::State;
 use visible::Area;
+
+// Rules' entriesMax.
+const ENTRIES: usize = 64;
 
 // What a purge answers and keeps, and what it is to write: the entries in use of `new` at index `entry` on, and the
 // rows that the plan keeps of `old`, which lie from row `from` on, at row `to` on. The index `past` is past the end.

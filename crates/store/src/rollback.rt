@@ -5,8 +5,8 @@ ghost use Rattle.rules.specs.Answers.{accepted};
 ghost use Rattle.lent.specs.Shapes.{saved};
 ghost use Rattle.store.specs.RollBack.{rollBackOf, placeOf, entriesAfter, rowsAfter, doneRollBack};
 
-use crate::sound;
 use crate::Kept;
+use admit::sound;
 use lent::Table;
 use rules::Answer;
 use rules::Entry;

@@ -2,15 +2,17 @@
 ghost use mathlib.Core.Path.{_≡_};
 ghost use Rattle.store.specs.Scan.{refusedLook, lookAt, rwLook, roLook, copied};
 
-use crate::admit::Admitted;
-use crate::admit::admit;
-use crate::limits::BITMAP;
+use admit::Admitted;
+use admit::admit;
 use lent::Table;
 use rules::Answer;
 use rules::Partition;
 use rules::Refusal;
 use rules::State;
 use visible::View;
+
+// The bytes that rules' rowsMax rows need.
+const BITMAP: usize = 64;
 
 // What a scan answers, and the first count bytes that it writes.
 pub struct Look {

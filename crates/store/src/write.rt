@@ -5,9 +5,9 @@ ghost use Rattle.rules.specs.Manager.{hasOpen};
 ghost use Rattle.partition.specs.Rows.{putRows};
 ghost use Rattle.store.specs.Write.{refusedWrite, plannedWrite, appendAt, appendWrite, clearAt, clearWrite, doneWrite};
 
-use crate::admit::Admitted;
-use crate::admit::admit;
 use crate::Kept;
+use admit::Admitted;
+use admit::admit;
 use lent::Table;
 use partition::Plan;
 use rules::Answer;

@@ -27,8 +27,8 @@ use Rattle.rules.specs.declared.State.{State}
 use Rattle.lent.specs.Entries.{tableOf}
 use Rattle.lent.proofs.Lists.{filled-all}
 use Rattle.partition_sound.proofs.Laws.Sound.{wellFormed-is}
-use Rattle.store.specs.Kept.{storeOf, Left, lengthsAre, restOk, freshPartitions, createKept, keptOf}
-use Rattle.store.specs.Kept.{soundOf, beginKept}
+use Rattle.admit.specs.Sound.{lengthsAre, restOk, soundOf}
+use Rattle.store.specs.Kept.{storeOf, Left, freshPartitions, createKept, keptOf, beginKept}
 use Rattle.store.specs.Kept.{commitKept, beginRoKept, endRoKept, advanceLseKept}
 
 -- the test by value is rules' wellFormed

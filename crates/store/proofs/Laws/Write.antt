@@ -42,7 +42,7 @@ use Rattle.partition.proofs.Laws.Append.{over-none}
 use Rattle.partition.proofs.Laws.Written.{append-full, append-written, append-laid}
 use Rattle.partition.proofs.Laws.Written.{clear-full, clear-written, clear-laid}
 use Rattle.store.specs.Kept.{storeOf, Left}
-use Rattle.store.specs.Admit.{partitionOf}
+use Rattle.admit.specs.Admit.{partitionOf}
 use Rattle.store.specs.Write.{refusedWrite, plannedWrite}
 use Rattle.store.specs.Write.{appendWrite, clearWrite, doneWrite}
 use Rattle.store.specs.declared.write.Write.{Write}

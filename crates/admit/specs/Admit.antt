@@ -12,9 +12,9 @@ use Rattle.rules.specs.declared.Refusal.the-variants.{UnknownPartition, NotOpen
 use Rattle.rules.specs.declared.Partition.{Partition}
 use Rattle.rules.specs.declared.State.{State}
 use Rattle.lent.specs.declared.Table.{Table}
-use Rattle.store.specs.Kept.{soundOf}
-use Rattle.store.specs.declared.admit.Admitted.{Admitted}
-use Rattle.store.specs.declared.admit.Admitted.the-variants.{To, Not}
+use Rattle.admit.specs.Sound.{soundOf}
+use Rattle.admit.specs.declared.Admitted.{Admitted}
+use Rattle.admit.specs.declared.Admitted.the-variants.{To, Not}
 
 abbrev pub partitionOf : ℕ → State → Partition
 partitionOf p s = getD (s .partitions .at) p noPartition

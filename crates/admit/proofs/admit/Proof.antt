@@ -1,4 +1,4 @@
--- `store::admit::admit` meets its contract: 5, 1 and 2 in 01's order.
+-- `admit::admit` meets its contract: 5, 1 and 2 in 01's order.
 -- Assumes nothing.
 use mathlib.Core.Path.{_≡_, sym, _∙_}
 use mathlib.Core.Bool.{true, false}
@@ -6,9 +6,9 @@ use lib.Dec.{leb}
 use borrow.Author.Tests.{not-true, not-false, le-leb, lt-leb}
 use borrow.Author.Needs.{needs}
 use Rattle.rules.specs.Limits.{partitionsMax}
-use Rattle.store.specs.Kept.{soundOf}
-use Rattle.store.proofs.admit.admit.Statement.{statement}
-use Rattle.store.proofs.admit.admit.Tie as tie
+use Rattle.admit.specs.Sound.{soundOf}
+use Rattle.admit.proofs.admit.Statement.{statement}
+use Rattle.admit.proofs.admit.Tie as tie
 
 -- what each refusal that was passed says
 sound : (c : tie.Else1) → let a = c .before .before .args in soundOf (a .state) (a .t) (a .n) (a .m) ≡ true

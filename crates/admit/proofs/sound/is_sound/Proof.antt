@@ -1,9 +1,9 @@
--- `store::sound::is_sound` meets its contract. Assumes nothing.
+-- `admit::sound::is_sound` meets its contract. Assumes nothing.
 use mathlib.Core.Path.{sym, _∙_}
 use borrow.Author.Tests.{not-true, not-false}
 use borrow.Author.Needs.{needs}
-use Rattle.store.proofs.sound.is_sound.Statement.{statement}
-use Rattle.store.proofs.sound.is_sound.Tie as tie
+use Rattle.admit.proofs.sound.is_sound.Statement.{statement}
+use Rattle.admit.proofs.sound.is_sound.Tie as tie
 
 rest-ok-requires : tie.Need-rest-ok-requires
 rest-ok-requires c κs = search needs

@@ -1,10 +1,10 @@
--- `store::sound::rest_ok` meets its contract. Assumes nothing.
+-- `admit::sound::rest_ok` meets its contract. Assumes nothing.
 use mathlib.Core.Path.{sym, _∙_}
 use borrow.Author.Tests.{not-true, not-false}
 use borrow.Author.Needs.{needs}
-use Rattle.store.specs.Kept.{restOk}
-use Rattle.store.proofs.sound.rest_ok.Statement.{statement}
-use Rattle.store.proofs.sound.rest_ok.Tie as tie
+use Rattle.admit.specs.Sound.{restOk}
+use Rattle.admit.proofs.sound.rest_ok.Statement.{statement}
+use Rattle.admit.proofs.sound.rest_ok.Tie as tie
 
 lengths-ok-requires : tie.Need-lengths-ok-requires
 lengths-ok-requires c κs = search needs

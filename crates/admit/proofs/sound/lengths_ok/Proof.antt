@@ -1,8 +1,8 @@
--- `store::sound::lengths_ok` meets its contract. Assumes nothing.
+-- `admit::sound::lengths_ok` meets its contract. Assumes nothing.
 use borrow.Author.Tests.{ne-eqb, eq-eqb}
-use Rattle.store.specs.Kept.{lengthsAre}
-use Rattle.store.proofs.sound.lengths_ok.Statement.{statement}
-use Rattle.store.proofs.sound.lengths_ok.Tie as tie
+use Rattle.admit.specs.Sound.{lengthsAre}
+use Rattle.admit.proofs.sound.lengths_ok.Statement.{statement}
+use Rattle.admit.proofs.sound.lengths_ok.Tie as tie
 
 returns : tie.Need-returns
 unfolding lengthsAre

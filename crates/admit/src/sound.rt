@@ -1,6 +1,6 @@
 // 01's *sound*: the lengths of the lent areas and the partitions, then the manager.
 ghost use mathlib.Core.Path.{_≡_};
-ghost use Rattle.store.specs.Kept.{lengthsAre, restOk, soundOf};
+ghost use Rattle.admit.specs.Sound.{lengthsAre, restOk, soundOf};
 
 use crate::limits::ENTRIES_LENT;
 use crate::limits::ROWS_LENT;

@@ -1,13 +1,15 @@
 // What every call on one partition asks first: 5, 1 and 2, in 01's order ("Refusals that come from the state").
 ghost use mathlib.Core.Path.{_≡_};
-ghost use Rattle.store.specs.Admit.{admitted};
+ghost use Rattle.admit.specs.Admit.{admitted};
 
 use crate::limits::PARTITIONS;
-use crate::sound;
 use lent::Table;
 use rules::Partition;
 use rules::Refusal;
 use rules::State;
+
+pub mod limits;
+pub mod sound;
 
 // The partition, or why the call is refused.
 pub enum Admitted {
