@@ -14,8 +14,6 @@ use Rattle.store.proofs.rollback.RollBack as RollBackT
 use Rattle.store.proofs.rollback.RollBack.Laws as RollBackL
 use Rattle.store.proofs.scan.Look as LookT
 use Rattle.store.proofs.scan.Look.Laws as LookL
-use Rattle.store.proofs.write.Write as WriteT
-use Rattle.store.proofs.write.Write.Laws as WriteL
 
 abbrev pub kept : Shown
 kept = record {
@@ -23,13 +21,6 @@ kept = record {
   val = LL.val KeptT.the-type KeptL.the-laws; tells = LL.tells KeptT.the-type KeptL.the-laws;
   wt = λ 𝓤 H A G z g. LL.lawful KeptT.the-type KeptL.the-laws 𝓤 H A G .typed z _ g .0; last = λ x. tt;
   silent = λ x f. refl; makes = λ 𝓤 H A _. LL.makes KeptT.the-type KeptL.the-plain 𝓤 H A }
-
-abbrev pub write : Shown
-write = record {
-  row = WriteT.the-row; mir = WriteL.mir;
-  val = LL.val WriteT.the-type WriteL.the-laws; tells = LL.tells WriteT.the-type WriteL.the-laws;
-  wt = λ 𝓤 H A G z g. LL.lawful WriteT.the-type WriteL.the-laws 𝓤 H A G .typed z _ g .0; last = λ x. tt;
-  silent = λ x f. refl; makes = λ 𝓤 H A _. LL.makes WriteT.the-type WriteL.the-plain 𝓤 H A }
 
 abbrev pub purge : Shown
 purge = record {

@@ -1,5 +1,5 @@
 pub mod Kept
-pub mod Write
 pub mod Purge
 pub mod Scan
 pub mod RollBack
+pub mod Done

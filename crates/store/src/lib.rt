@@ -12,10 +12,10 @@ use rules::Entry;
 use rules::State;
 
 mod books;
+mod done;
 mod purging;
 mod rollback;
 mod scan;
-mod write;
 
 // What a call answers, and the books after it.
 pub struct Kept {
@@ -54,10 +54,10 @@ pub fn append(state: State, entries: &mut [Entry], rows: &mut [u64], batch: &[u6
     let m = rows.len();
     let k = batch.len();
     let t = lent::load_all(entries);
-    let w = write::append_core(state, t, n, m, k, txn, p);
-    write::put_write(entries, w);
-    write::write_rows(rows, batch, w);
-    write::write_done(w)
+    let w = plan_write::append_core(state, t, n, m, k, txn, p);
+    plan_write::put_write(entries, w);
+    plan_write::write_rows(rows, batch, w);
+    done::write_done(w)
 }
 
 // A clearing of partition p by transaction txn. Refusals, in this order: 5, 1, 2, 9.
@@ -68,10 +68,10 @@ pub fn clear(state: State, entries: &mut [Entry], rows: &mut [u64], txn: u64, p:
     let n = entries.len();
     let m = rows.len();
     let t = lent::load_all(entries);
-    let w = write::clear_core(state, t, n, m, txn, p);
-    write::put_write(entries, w);
-    write::keep_rows(rows, w);
-    write::write_done(w)
+    let w = plan_write::clear_core(state, t, n, m, txn, p);
+    plan_write::put_write(entries, w);
+    plan_write::keep_rows(rows, w);
+    done::write_done(w)
 }
 
 // Refusals, in this order: 5, 2.

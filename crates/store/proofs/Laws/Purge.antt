@@ -42,8 +42,8 @@ use Rattle.rewrite.specs.declared.Plan.{Plan}
 use Rattle.rewrite.proofs.Laws.Store.{Dated, dated, area-entries, skips-same, purged-area, purged-copied}
 use Rattle.rewrite.proofs.Laws.Copied.{apart-before, apart-after}
 use Rattle.compact.specs.Areas.{baseOf, areaAt, movedTo}
-use Rattle.store.specs.Kept.{storeOf, Left}
 use Rattle.admit.specs.Admit.{partitionOf}
+use Rattle.store.specs.Kept.{storeOf, Left}
 use Rattle.store.specs.Purge.{unwrittenPurge, planAt, movedPurge, purgePlan, newOf, placeOf}
 use Rattle.store.specs.Purge.{donePurge}
 use Rattle.store.specs.declared.Kept.{Kept}

@@ -42,8 +42,8 @@ use Rattle.visible.specs.Bare.{entriesIn}
 use Rattle.visible.specs.Scan.{scanOk, scanned, bitmapScanned}
 use Rattle.visible.proofs.Laws.Scan.{spanFlags, scan-ok, scanned-spans, bitmap-spans}
 use Rattle.compact.specs.Areas.{areaAt}
-use Rattle.store.specs.Kept.{storeOf}
 use Rattle.admit.specs.Admit.{partitionOf}
+use Rattle.store.specs.Kept.{storeOf}
 use Rattle.store.specs.Scan.{Showed, noBits, refusedLook, lookAt, rwView, roView, lookBy}
 use Rattle.store.specs.Scan.{rwLook, roLook, copied}
 use Rattle.store.specs.declared.scan.Look.{Look}

@@ -1,4 +1,4 @@
--- What append and clear decide by value is what step leaves. Definitions: specs/Write.antt.
+-- What append and clear decide by value is what step leaves. Definitions: plan_write/specs/Write.antt.
 -- In order: a write carried out, a refusal, append, clear.
 -- Assumes nothing.
 use mathlib.Core.Path.{_≡_, refl, sym, ap, _∙_}
@@ -41,11 +41,11 @@ use Rattle.partition.proofs.Laws.Rows.{putRows-out}
 use Rattle.partition.proofs.Laws.Append.{over-none}
 use Rattle.partition.proofs.Laws.Written.{append-full, append-written, append-laid}
 use Rattle.partition.proofs.Laws.Written.{clear-full, clear-written, clear-laid}
-use Rattle.store.specs.Kept.{storeOf, Left}
 use Rattle.admit.specs.Admit.{partitionOf}
-use Rattle.store.specs.Write.{refusedWrite, plannedWrite}
-use Rattle.store.specs.Write.{appendWrite, clearWrite, doneWrite}
-use Rattle.store.specs.declared.write.Write.{Write}
+use Rattle.plan_write.specs.Write.{refusedWrite, plannedWrite, appendWrite, clearWrite}
+use Rattle.plan_write.specs.declared.Write.{Write}
+use Rattle.store.specs.Kept.{storeOf, Left}
+use Rattle.store.specs.Done.{doneWrite}
 use Rattle.store.proofs.Laws.Kept.{sound-is}
 
 pub state-8 : (s : State) (vs : List Val) → Is (row state-type.the-type) s vs → length (s .partitions .at) ≡ 8

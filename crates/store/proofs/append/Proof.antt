@@ -10,24 +10,26 @@ use Rattle.rules.specs.Step.{step, append as append-call}
 use Rattle.rules.specs.declared.Entry.{Entry}
 use Rattle.rules.specs.declared.State.{State}
 use Rattle.partition.specs.Rows.{putRows}
+use Rattle.plan_write.specs.Write.{appendWrite}
+use Rattle.plan_write.specs.declared.Write.{Write}
 use Rattle.store.specs.Kept.{storeOf, Left}
-use Rattle.store.specs.Write.{appendWrite, doneWrite}
+use Rattle.store.specs.Done.{doneWrite}
 use Rattle.store.specs.declared.Kept.{Kept}
-use Rattle.store.specs.declared.write.Write.{Write}
 use Rattle.lent.proofs.Shown.{LoadAll}
 use Rattle.lent.proofs.Change.{Core, Put, Wrote as WroteRows, Fin, meets}
 use Rattle.lent.proofs.load_all.Symbol as load-all
 use Rattle.lent.proofs.load_all.Met as load-all-thm
-use Rattle.store.proofs.Types.{kept, write}
+use Rattle.plan_write.proofs.Types.{write}
+use Rattle.plan_write.proofs.append_core.Symbol as core
+use Rattle.plan_write.proofs.append_core.Met as core-thm
+use Rattle.plan_write.proofs.put_write.Symbol as put
+use Rattle.plan_write.proofs.put_write.Met as put-thm
+use Rattle.plan_write.proofs.write_rows.Symbol as wr
+use Rattle.plan_write.proofs.write_rows.Met as wr-thm
+use Rattle.store.proofs.Types.{kept}
 use Rattle.store.proofs.Laws.Write.{state-8, append-left}
-use Rattle.store.proofs.write.append_core.Symbol as core
-use Rattle.store.proofs.write.append_core.Met as core-thm
-use Rattle.store.proofs.write.put_write.Symbol as put
-use Rattle.store.proofs.write.put_write.Met as put-thm
-use Rattle.store.proofs.write.write_rows.Symbol as wr
-use Rattle.store.proofs.write.write_rows.Met as wr-thm
-use Rattle.store.proofs.write.write_done.Symbol as fin
-use Rattle.store.proofs.write.write_done.Met as fin-thm
+use Rattle.store.proofs.done.write_done.Symbol as fin
+use Rattle.store.proofs.done.write_done.Met as fin-thm
 use Rattle.store.proofs.append.Key.{name as #store·append}
 use Rattle.store.proofs.append as f
 use Rattle.store.proofs.append.Statement as stated
@@ -53,10 +55,10 @@ append-spec 𝓤 H 𝓜 𝓖 𝓡 =
     (cited 𝓤 H (LoadAll 𝓤 H (𝓖 .A) (𝓜 .mem) (𝓡 .run)) 𝓜 𝓡 code.env load-all.name load-all.routine
       code.calls-lent·load-all (load-all-thm.met 𝓤 H 𝓜 𝓖 𝓡))
     (cited 𝓤 H (Core write kept appendWrite entriesBy rowsBy doneWrite Ends 𝓤 H (𝓖 .A)) 𝓜 𝓡 code.env core.name
-      core.routine code.calls-store·write·append-core (core-thm.met 𝓤 H 𝓜 𝓖 𝓡))
+      core.routine code.calls-plan-write·append-core (core-thm.met 𝓤 H 𝓜 𝓖 𝓡))
     (cited 𝓤 H (Put write kept appendWrite entriesBy rowsBy doneWrite Ends 𝓤 H (𝓖 .A)) 𝓜 𝓡 code.env put.name
-      put.routine code.calls-store·write·put-write (put-thm.met 𝓤 H 𝓜 𝓖 𝓡))
+      put.routine code.calls-plan-write·put-write (put-thm.met 𝓤 H 𝓜 𝓖 𝓡))
     (cited 𝓤 H (WroteRows write kept appendWrite entriesBy rowsBy doneWrite Ends 𝓤 H (𝓖 .A)) 𝓜 𝓡 code.env wr.name
-      wr.routine code.calls-store·write·write-rows (wr-thm.met 𝓤 H 𝓜 𝓖 𝓡))
+      wr.routine code.calls-plan-write·write-rows (wr-thm.met 𝓤 H 𝓜 𝓖 𝓡))
     (cited 𝓤 H (Fin write kept appendWrite entriesBy rowsBy doneWrite Ends 𝓤 H (𝓖 .A)) 𝓜 𝓡 code.env fin.name
-      fin.routine code.calls-store·write·write-done (fin-thm.met 𝓤 H 𝓜 𝓖 𝓡)))
+      fin.routine code.calls-store·done·write-done (fin-thm.met 𝓤 H 𝓜 𝓖 𝓡)))

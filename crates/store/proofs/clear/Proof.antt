@@ -9,24 +9,26 @@ use denote.Triple.Table.{entered, cited}
 use Rattle.rules.specs.Step.{step, clear as clear-call}
 use Rattle.rules.specs.declared.Entry.{Entry}
 use Rattle.rules.specs.declared.State.{State}
+use Rattle.plan_write.specs.Write.{clearWrite}
+use Rattle.plan_write.specs.declared.Write.{Write}
 use Rattle.store.specs.Kept.{storeOf, Left}
-use Rattle.store.specs.Write.{clearWrite, doneWrite}
+use Rattle.store.specs.Done.{doneWrite}
 use Rattle.store.specs.declared.Kept.{Kept}
-use Rattle.store.specs.declared.write.Write.{Write}
 use Rattle.lent.proofs.Shown.{LoadAll}
 use Rattle.lent.proofs.Rewrite2.{Core, Put, Wrote as WroteRows, Fin, meets}
 use Rattle.lent.proofs.load_all.Symbol as load-all
 use Rattle.lent.proofs.load_all.Met as load-all-thm
-use Rattle.store.proofs.Types.{kept, write}
+use Rattle.plan_write.proofs.Types.{write}
+use Rattle.plan_write.proofs.clear_core.Symbol as core
+use Rattle.plan_write.proofs.clear_core.Met as core-thm
+use Rattle.plan_write.proofs.put_write.Symbol as put
+use Rattle.plan_write.proofs.put_write.Met as put-thm
+use Rattle.plan_write.proofs.keep_rows.Symbol as wr
+use Rattle.plan_write.proofs.keep_rows.Met as wr-thm
+use Rattle.store.proofs.Types.{kept}
 use Rattle.store.proofs.Laws.Write.{state-8, clear-left}
-use Rattle.store.proofs.write.clear_core.Symbol as core
-use Rattle.store.proofs.write.clear_core.Met as core-thm
-use Rattle.store.proofs.write.put_write.Symbol as put
-use Rattle.store.proofs.write.put_write.Met as put-thm
-use Rattle.store.proofs.write.keep_rows.Symbol as wr
-use Rattle.store.proofs.write.keep_rows.Met as wr-thm
-use Rattle.store.proofs.write.write_done.Symbol as fin
-use Rattle.store.proofs.write.write_done.Met as fin-thm
+use Rattle.store.proofs.done.write_done.Symbol as fin
+use Rattle.store.proofs.done.write_done.Met as fin-thm
 use Rattle.store.proofs.clear.Key.{name as #store·clear}
 use Rattle.store.proofs.clear as f
 use Rattle.store.proofs.clear.Statement as stated
@@ -52,10 +54,10 @@ clear-spec 𝓤 H 𝓜 𝓖 𝓡 =
     (cited 𝓤 H (LoadAll 𝓤 H (𝓖 .A) (𝓜 .mem) (𝓡 .run)) 𝓜 𝓡 code.env load-all.name load-all.routine
       code.calls-lent·load-all (load-all-thm.met 𝓤 H 𝓜 𝓖 𝓡))
     (cited 𝓤 H (Core write kept clearWrite entriesBy rowsBy doneWrite Ends 𝓤 H (𝓖 .A)) 𝓜 𝓡 code.env core.name
-      core.routine code.calls-store·write·clear-core (core-thm.met 𝓤 H 𝓜 𝓖 𝓡))
+      core.routine code.calls-plan-write·clear-core (core-thm.met 𝓤 H 𝓜 𝓖 𝓡))
     (cited 𝓤 H (Put write kept clearWrite entriesBy rowsBy doneWrite Ends 𝓤 H (𝓖 .A)) 𝓜 𝓡 code.env put.name
-      put.routine code.calls-store·write·put-write (put-thm.met 𝓤 H 𝓜 𝓖 𝓡))
+      put.routine code.calls-plan-write·put-write (put-thm.met 𝓤 H 𝓜 𝓖 𝓡))
     (cited 𝓤 H (WroteRows write kept clearWrite entriesBy rowsBy doneWrite Ends 𝓤 H (𝓖 .A)) 𝓜 𝓡 code.env wr.name
-      wr.routine code.calls-store·write·keep-rows (wr-thm.met 𝓤 H 𝓜 𝓖 𝓡))
+      wr.routine code.calls-plan-write·keep-rows (wr-thm.met 𝓤 H 𝓜 𝓖 𝓡))
     (cited 𝓤 H (Fin write kept clearWrite entriesBy rowsBy doneWrite Ends 𝓤 H (𝓖 .A)) 𝓜 𝓡 code.env fin.name
-      fin.routine code.calls-store·write·write-done (fin-thm.met 𝓤 H 𝓜 𝓖 𝓡)))
+      fin.routine code.calls-store·done·write-done (fin-thm.met 𝓤 H 𝓜 𝓖 𝓡)))

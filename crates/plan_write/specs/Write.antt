@@ -1,5 +1,5 @@
 -- What append and clear decide by value. 01 "Lots", Append, Clear.
--- In order: a refusal, a plan, append, clear, the end. Laws: proofs/Laws/Write.antt.
+-- In order: a refusal, a plan, append, clear. Laws: store/proofs/Laws/Write.antt.
 -- Assumes nothing.
 use mathlib.Core.Bool.{cond}
 use mathlib.Core.List.{List}
@@ -18,8 +18,7 @@ use Rattle.partition.specs.Areas.{withPartition}
 use Rattle.partition.specs.Append.{appendPlan, clearPlan}
 use Rattle.partition.specs.declared.Plan.{Plan}
 use Rattle.admit.specs.Admit.{admitted, byAdmission}
-use Rattle.store.specs.declared.Kept.{Kept}
-use Rattle.store.specs.declared.write.Write.{Write}
+use Rattle.plan_write.specs.declared.Write.{Write}
 
 -- of n entries and m rows none is written
 abbrev pub refusedWrite : State → ℕ → ℕ → Refusal → Write
@@ -57,6 +56,3 @@ clearAt s n m i p q =
 unfoldable pub clearWrite : State → Table → ℕ → ℕ → ℕ → ℕ → Write
 clearWrite s t n m i p =
     byAdmission (refusedWrite s n m) (clearAt s n m i p) (admitted (hasOpen i (s .manager)) s t n m p)
-
-abbrev pub doneWrite : Write → Kept
-doneWrite w = record { answer = w .answer; state = w .state }

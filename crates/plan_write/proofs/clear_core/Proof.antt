@@ -1,9 +1,9 @@
--- `store::write::clear_core` meets its contract: refused, or carried out on the partition that it is admitted to.
+-- `plan_write::clear_core` meets its contract: refused, or carried out on the partition that it is admitted to.
 -- Assumes nothing.
 use borrow.Author.Needs.{needs}
-use Rattle.store.specs.Write.{clearWrite}
-use Rattle.store.proofs.write.clear_core.Statement.{statement}
-use Rattle.store.proofs.write.clear_core.Tie as tie
+use Rattle.plan_write.specs.Write.{clearWrite}
+use Rattle.plan_write.proofs.clear_core.Statement.{statement}
+use Rattle.plan_write.proofs.clear_core.Tie as tie
 
 is-open-requires : tie.Need-is-open-requires
 is-open-requires c κs = search needs

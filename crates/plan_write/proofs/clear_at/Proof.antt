@@ -1,9 +1,9 @@
--- `store::write::clear_at` meets its contract: 9, then the plan.
+-- `plan_write::clear_at` meets its contract: 9, then the plan.
 -- Assumes nothing.
 use mathlib.Core.Path.{sym, ap, _∙_}
 use borrow.Author.Needs.{needs}
-use Rattle.store.proofs.write.clear_at.Statement.{statement}
-use Rattle.store.proofs.write.clear_at.Tie as tie
+use Rattle.plan_write.proofs.clear_at.Statement.{statement}
+use Rattle.plan_write.proofs.clear_at.Tie as tie
 
 clear-plan-requires : tie.Need-clear-plan-requires
 clear-plan-requires c κs = search needs

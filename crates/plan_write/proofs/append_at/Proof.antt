@@ -1,9 +1,9 @@
--- `store::write::append_at` meets its contract: 8, 9, then the plan.
+-- `plan_write::append_at` meets its contract: 8, 9, then the plan.
 -- Assumes nothing.
 use mathlib.Core.Path.{sym, ap, _∙_}
 use borrow.Author.Needs.{needs}
-use Rattle.store.proofs.write.append_at.Statement.{statement}
-use Rattle.store.proofs.write.append_at.Tie as tie
+use Rattle.plan_write.proofs.append_at.Statement.{statement}
+use Rattle.plan_write.proofs.append_at.Tie as tie
 
 append-plan-requires : tie.Need-append-plan-requires
 append-plan-requires c κs = search needs

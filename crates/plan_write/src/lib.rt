@@ -3,9 +3,8 @@ ghost use mathlib.Core.Path.{_≡_};
 ghost use lib.ListN.{set};
 ghost use Rattle.rules.specs.Manager.{hasOpen};
 ghost use Rattle.partition.specs.Rows.{putRows};
-ghost use Rattle.store.specs.Write.{refusedWrite, plannedWrite, appendAt, appendWrite, clearAt, clearWrite, doneWrite};
+ghost use Rattle.plan_write.specs.Write.{refusedWrite, plannedWrite, appendAt, appendWrite, clearAt, clearWrite};
 
-use crate::Kept;
 use admit::Admitted;
 use admit::admit;
 use lent::Table;
@@ -156,12 +155,4 @@ pub fn write_rows(rows: &mut [u64], batch: &[u64], w: Write)
 pub fn keep_rows(rows: &mut [u64], w: Write)
     ensures { λ _. ⌜ now (rows .exit) ≡ now (rows .entry) ⌝ }
 {
-}
-
-pub fn write_done(w: Write) -> Kept
-    ensures { λ r. ⌜ r ≡ doneWrite w ⌝ }
-{
-    let answer = w.answer;
-    let state = w.state;
-    Kept { answer: answer, state: state }
 }

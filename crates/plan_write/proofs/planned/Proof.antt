@@ -1,7 +1,7 @@
--- `store::write::planned` meets its contract. Assumes nothing.
+-- `plan_write::planned` meets its contract. Assumes nothing.
 use borrow.Author.Needs.{needs}
-use Rattle.store.proofs.write.planned.Statement.{statement}
-use Rattle.store.proofs.write.planned.Tie as tie
+use Rattle.plan_write.proofs.planned.Statement.{statement}
+use Rattle.plan_write.proofs.planned.Tie as tie
 
 with-partition-requires : tie.Need-with-partition-requires
 with-partition-requires c κs = search needs

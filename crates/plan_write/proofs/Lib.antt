@@ -1,0 +1,2 @@
+pub mod PutOne
+pub mod Types

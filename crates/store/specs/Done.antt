@@ -1,0 +1,7 @@
+-- What a call answers and keeps, of its plan.
+-- Assumes nothing.
+use Rattle.plan_write.specs.declared.Write.{Write}
+use Rattle.store.specs.declared.Kept.{Kept}
+
+abbrev pub doneWrite : Write → Kept
+doneWrite w = record { answer = w .answer; state = w .state }

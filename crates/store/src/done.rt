@@ -1,0 +1,14 @@
+// What a call answers and keeps, of its plan.
+ghost use mathlib.Core.Path.{_≡_};
+ghost use Rattle.store.specs.Done.{doneWrite};
+
+use crate::Kept;
+use plan_write::Write;
+
+pub fn write_done(w: Write) -> Kept
+    ensures { λ r. ⌜ r ≡ doneWrite w ⌝ }
+{
+    let answer = w.answer;
+    let state = w.state;
+    Kept { answer: answer, state: state }
+}
