@@ -8,8 +8,6 @@ use Rattle.rules.proofs.Answer.Laws as AnswerL
 use Rattle.lent.proofs.Shown.{Shown}
 use Rattle.store.proofs.Kept as KeptT
 use Rattle.store.proofs.Kept.Laws as KeptL
-use Rattle.store.proofs.purging.Purge as PurgeT
-use Rattle.store.proofs.purging.Purge.Laws as PurgeL
 use Rattle.store.proofs.rollback.RollBack as RollBackT
 use Rattle.store.proofs.rollback.RollBack.Laws as RollBackL
 use Rattle.store.proofs.scan.Look as LookT
@@ -21,13 +19,6 @@ kept = record {
   val = LL.val KeptT.the-type KeptL.the-laws; tells = LL.tells KeptT.the-type KeptL.the-laws;
   wt = λ 𝓤 H A G z g. LL.lawful KeptT.the-type KeptL.the-laws 𝓤 H A G .typed z _ g .0; last = λ x. tt;
   silent = λ x f. refl; makes = λ 𝓤 H A _. LL.makes KeptT.the-type KeptL.the-plain 𝓤 H A }
-
-abbrev pub purge : Shown
-purge = record {
-  row = PurgeT.the-row; mir = PurgeL.mir;
-  val = LL.val PurgeT.the-type PurgeL.the-laws; tells = LL.tells PurgeT.the-type PurgeL.the-laws;
-  wt = λ 𝓤 H A G z g. LL.lawful PurgeT.the-type PurgeL.the-laws 𝓤 H A G .typed z _ g .0; last = λ x. tt;
-  silent = λ x f. refl; makes = λ 𝓤 H A _. LL.makes PurgeT.the-type PurgeL.the-plain 𝓤 H A }
 
 abbrev pub rollBack : Shown
 rollBack = record {

@@ -1,5 +1,4 @@
 pub mod Kept
-pub mod Purge
 pub mod Scan
 pub mod RollBack
 pub mod Done

@@ -1,12 +1,21 @@
 // What a call answers and keeps, of its plan.
 ghost use mathlib.Core.Path.{_≡_};
-ghost use Rattle.store.specs.Done.{doneWrite};
+ghost use Rattle.store.specs.Done.{doneWrite, donePurge};
 
 use crate::Kept;
 use plan_write::Write;
+use plan_purge::Purge;
 
 pub fn write_done(w: Write) -> Kept
     ensures { λ r. ⌜ r ≡ doneWrite w ⌝ }
+{
+    let answer = w.answer;
+    let state = w.state;
+    Kept { answer: answer, state: state }
+}
+
+pub fn purge_done(w: Purge) -> Kept
+    ensures { λ r. ⌜ r ≡ donePurge w ⌝ }
 {
     let answer = w.answer;
     let state = w.state;

@@ -13,7 +13,6 @@ use rules::State;
 
 mod books;
 mod done;
-mod purging;
 mod rollback;
 mod scan;
 
@@ -170,8 +169,8 @@ pub fn purge(state: State, entries: &mut [Entry], rows: &mut [u64], p: u64) -> K
     let n = entries.len();
     let m = rows.len();
     let t = lent::load_all(entries);
-    let w = purging::purge_core(state, t, n, m, p);
-    purging::put_purge(entries, w);
-    purging::purge_rows(rows, w);
-    purging::purge_done(w)
+    let w = plan_purge::purge_core(state, t, n, m, p);
+    plan_purge::put_purge(entries, w);
+    plan_purge::purge_rows(rows, w);
+    done::purge_done(w)
 }

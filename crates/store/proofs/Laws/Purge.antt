@@ -1,4 +1,4 @@
--- What purge decides by value is what step leaves. Definitions: specs/Purge.antt.
+-- What purge decides by value is what step leaves. Definitions: plan_purge/specs/Purge.antt.
 -- In order: nothing written, the entries placed, a partition's area, a rewrite of it, purge, the part in force.
 -- Assumes nothing.
 use mathlib.Core.Path.{_≡_, refl, sym, ap, _∙_}
@@ -43,11 +43,11 @@ use Rattle.rewrite.proofs.Laws.Store.{Dated, dated, area-entries, skips-same, p
 use Rattle.rewrite.proofs.Laws.Copied.{apart-before, apart-after}
 use Rattle.compact.specs.Areas.{baseOf, areaAt, movedTo}
 use Rattle.admit.specs.Admit.{partitionOf}
+use Rattle.plan_purge.specs.Purge.{unwrittenPurge, planAt, movedPurge, purgePlan, newOf, placeOf}
+use Rattle.plan_purge.specs.declared.Purge.{Purge}
 use Rattle.store.specs.Kept.{storeOf, Left}
-use Rattle.store.specs.Purge.{unwrittenPurge, planAt, movedPurge, purgePlan, newOf, placeOf}
-use Rattle.store.specs.Purge.{donePurge}
+use Rattle.store.specs.Done.{donePurge}
 use Rattle.store.specs.declared.Kept.{Kept}
-use Rattle.store.specs.declared.purging.Purge.{Purge}
 use Rattle.store.proofs.Laws.Kept.{sound-is}
 use Rattle.store.proofs.Laws.Scan.{entries-facts, words}
 

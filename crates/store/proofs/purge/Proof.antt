@@ -9,26 +9,28 @@ use Rattle.rules.specs.Step.{step, purge as purge-call}
 use Rattle.rules.specs.declared.Entry.{Entry}
 use Rattle.rules.specs.declared.State.{State}
 use Rattle.rewrite.specs.Copied.{rowsCopied}
+use Rattle.plan_purge.specs.Purge.{purgePlan, placeOf, newOf}
+use Rattle.plan_purge.specs.declared.Purge.{Purge}
 use Rattle.store.specs.Kept.{storeOf, Left}
-use Rattle.store.specs.Purge.{purgePlan, placeOf, newOf, donePurge}
+use Rattle.store.specs.Done.{donePurge}
 use Rattle.store.specs.declared.Kept.{Kept}
-use Rattle.store.specs.declared.purging.Purge.{Purge}
 use Rattle.lent.specs.Shapes.{saved}
 use Rattle.lent.proofs.Shown.{LoadAll}
 use Rattle.lent.proofs.Rewrite1.{Core, Put, Wrote as WroteRows, Fin, meets}
 use Rattle.lent.proofs.load_all.Symbol as load-all
 use Rattle.lent.proofs.load_all.Met as load-all-thm
-use Rattle.store.proofs.Types.{kept, purge}
+use Rattle.plan_purge.proofs.Types.{purge}
+use Rattle.plan_purge.proofs.purge_core.Symbol as core
+use Rattle.plan_purge.proofs.purge_core.Met as core-thm
+use Rattle.plan_purge.proofs.put_purge.Symbol as put
+use Rattle.plan_purge.proofs.put_purge.Met as put-thm
+use Rattle.plan_purge.proofs.purge_rows.Symbol as wr
+use Rattle.plan_purge.proofs.purge_rows.Met as wr-thm
+use Rattle.store.proofs.Types.{kept}
 use Rattle.store.proofs.Laws.Write.{state-8}
 use Rattle.store.proofs.Laws.Purge.{purge-left}
-use Rattle.store.proofs.purging.purge_core.Symbol as core
-use Rattle.store.proofs.purging.purge_core.Met as core-thm
-use Rattle.store.proofs.purging.put_purge.Symbol as put
-use Rattle.store.proofs.purging.put_purge.Met as put-thm
-use Rattle.store.proofs.purging.purge_rows.Symbol as wr
-use Rattle.store.proofs.purging.purge_rows.Met as wr-thm
-use Rattle.store.proofs.purging.purge_done.Symbol as fin
-use Rattle.store.proofs.purging.purge_done.Met as fin-thm
+use Rattle.store.proofs.done.purge_done.Symbol as fin
+use Rattle.store.proofs.done.purge_done.Met as fin-thm
 use Rattle.store.proofs.purge.Key.{name as #store·purge}
 use Rattle.store.proofs.purge as f
 use Rattle.store.proofs.purge.Statement as stated
@@ -54,10 +56,10 @@ purge-spec 𝓤 H 𝓜 𝓖 𝓡 =
     (cited 𝓤 H (LoadAll 𝓤 H (𝓖 .A) (𝓜 .mem) (𝓡 .run)) 𝓜 𝓡 code.env load-all.name load-all.routine
       code.calls-lent·load-all (load-all-thm.met 𝓤 H 𝓜 𝓖 𝓡))
     (cited 𝓤 H (Core purge kept purgePlan entriesBy rowsBy donePurge Ends 𝓤 H (𝓖 .A)) 𝓜 𝓡 code.env core.name
-      core.routine code.calls-store·purging·purge-core (core-thm.met 𝓤 H 𝓜 𝓖 𝓡))
+      core.routine code.calls-plan-purge·purge-core (core-thm.met 𝓤 H 𝓜 𝓖 𝓡))
     (cited 𝓤 H (Put purge kept purgePlan entriesBy rowsBy donePurge Ends 𝓤 H (𝓖 .A)) 𝓜 𝓡 code.env put.name
-      put.routine code.calls-store·purging·put-purge (put-thm.met 𝓤 H 𝓜 𝓖 𝓡))
+      put.routine code.calls-plan-purge·put-purge (put-thm.met 𝓤 H 𝓜 𝓖 𝓡))
     (cited 𝓤 H (WroteRows purge kept purgePlan entriesBy rowsBy donePurge Ends 𝓤 H (𝓖 .A)) 𝓜 𝓡 code.env wr.name
-      wr.routine code.calls-store·purging·purge-rows (wr-thm.met 𝓤 H 𝓜 𝓖 𝓡))
+      wr.routine code.calls-plan-purge·purge-rows (wr-thm.met 𝓤 H 𝓜 𝓖 𝓡))
     (cited 𝓤 H (Fin purge kept purgePlan entriesBy rowsBy donePurge Ends 𝓤 H (𝓖 .A)) 𝓜 𝓡 code.env fin.name
-      fin.routine code.calls-store·purging·purge-done (fin-thm.met 𝓤 H 𝓜 𝓖 𝓡)))
+      fin.routine code.calls-store·done·purge-done (fin-thm.met 𝓤 H 𝓜 𝓖 𝓡)))

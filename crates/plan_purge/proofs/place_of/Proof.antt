@@ -1,9 +1,9 @@
--- `store::purging::place_of` meets its contract. Assumes nothing.
+-- `plan_purge::place_of` meets its contract. Assumes nothing.
 use borrow.Author.Needs.{needs}
 use borrow.Author.Tests.{lt-ltb, le-ltb}
-use Rattle.store.specs.Purge.{placeOf}
-use Rattle.store.proofs.purging.place_of.Statement.{statement}
-use Rattle.store.proofs.purging.place_of.Tie as tie
+use Rattle.plan_purge.specs.Purge.{placeOf}
+use Rattle.plan_purge.proofs.place_of.Statement.{statement}
+use Rattle.plan_purge.proofs.place_of.Tie as tie
 
 returns : tie.Need-returns
 unfolding placeOf

@@ -2,9 +2,8 @@
 ghost use mathlib.Core.Path.{_≡_};
 ghost use Rattle.lent.specs.Shapes.{saved};
 ghost use Rattle.rewrite.specs.Copied.{rowsCopied};
-ghost use Rattle.store.specs.Purge.{unwrittenPurge, movedPurge, purgeAt, purgePlan, placeOf, newOf, donePurge};
+ghost use Rattle.plan_purge.specs.Purge.{unwrittenPurge, movedPurge, purgeAt, purgePlan, placeOf, newOf};
 
-use crate::Kept;
 use admit::Admitted;
 use admit::admit;
 use admit::limits::ENTRIES_LENT;
@@ -152,12 +151,4 @@ pub fn purge_rows(rows: &mut [u64], w: Purge)
     let from = w.from;
     let to = w.to;
     rewrite::copying::copy_kept(rows, old, plan, from, to);
-}
-
-pub fn purge_done(w: Purge) -> Kept
-    ensures { λ r. ⌜ r ≡ donePurge w ⌝ }
-{
-    let answer = w.answer;
-    let state = w.state;
-    Kept { answer: answer, state: state }
 }

@@ -1,7 +1,7 @@
--- `store::purging::moved` meets its contract: each part is what a callee says. Assumes nothing.
+-- `plan_purge::moved` meets its contract: each part is what a callee says. Assumes nothing.
 use borrow.Author.Needs.{needs}
-use Rattle.store.proofs.purging.moved.Statement.{statement}
-use Rattle.store.proofs.purging.moved.Tie as tie
+use Rattle.plan_purge.proofs.moved.Statement.{statement}
+use Rattle.plan_purge.proofs.moved.Tie as tie
 
 purge-plan-requires : tie.Need-purge-plan-requires
 purge-plan-requires c κs = search needs

@@ -1,5 +1,5 @@
 -- What purge decides by value. 01 "Lots", Purge.
--- In order: nothing written, a rewrite, purge, what is written where, the end. Laws: proofs/Laws/Purge.antt.
+-- In order: nothing written, a rewrite, purge, what is written where. Laws: store/proofs/Laws/Purge.antt.
 -- Assumes nothing.
 use mathlib.Core.Bool.{true, _&&_, cond}
 use mathlib.Core.List.{List}
@@ -21,8 +21,7 @@ use Rattle.visible.specs.declared.Area.{Area}
 use Rattle.rewrite.specs.declared.Plan.{Plan}
 use Rattle.compact.specs.Areas.{baseOf, areaAt, movedTo}
 use Rattle.admit.specs.Admit.{admitted, byAdmission}
-use Rattle.store.specs.declared.Kept.{Kept}
-use Rattle.store.specs.declared.purging.Purge.{Purge}
+use Rattle.plan_purge.specs.declared.Purge.{Purge}
 
 -- no entry
 abbrev pub noArea : Area
@@ -71,6 +70,3 @@ unfoldable pub placeOf : Purge → ℕ → ℕ
 placeOf w i =
     cond (ltb i (w .new .count) && (ltb i entriesMax && ltb (w .entry) (entriesMax * areasMax)))
     (w .entry + i) (w .past)
-
-abbrev pub donePurge : Purge → Kept
-donePurge w = record { answer = w .answer; state = w .state }

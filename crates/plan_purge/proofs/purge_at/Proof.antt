@@ -1,9 +1,9 @@
--- `store::purging::purge_at` meets its contract: skipped or rewritten.
+-- `plan_purge::purge_at` meets its contract: skipped or rewritten.
 -- Assumes nothing.
 use mathlib.Core.Path.{sym, _∙_}
 use borrow.Author.Needs.{needs}
-use Rattle.store.proofs.purging.purge_at.Statement.{statement}
-use Rattle.store.proofs.purging.purge_at.Tie as tie
+use Rattle.plan_purge.proofs.purge_at.Statement.{statement}
+use Rattle.plan_purge.proofs.purge_at.Tie as tie
 
 area-of-requires : tie.Need-area-of-requires
 area-of-requires c κs = search needs

@@ -1,9 +1,9 @@
--- `store::purging::purge_core` meets its contract: refused, or carried out on the partition that it is admitted to.
+-- `plan_purge::purge_core` meets its contract: refused, or carried out on the partition that it is admitted to.
 -- Assumes nothing.
 use borrow.Author.Needs.{needs}
-use Rattle.store.specs.Purge.{purgePlan}
-use Rattle.store.proofs.purging.purge_core.Statement.{statement}
-use Rattle.store.proofs.purging.purge_core.Tie as tie
+use Rattle.plan_purge.specs.Purge.{purgePlan}
+use Rattle.plan_purge.proofs.purge_core.Statement.{statement}
+use Rattle.plan_purge.proofs.purge_core.Tie as tie
 
 admit-requires : tie.Need-admit-requires
 admit-requires c κs = search needs
