@@ -8,8 +8,6 @@ use Rattle.rules.proofs.Answer.Laws as AnswerL
 use Rattle.lent.proofs.Shown.{Shown}
 use Rattle.store.proofs.Kept as KeptT
 use Rattle.store.proofs.Kept.Laws as KeptL
-use Rattle.store.proofs.rollback.RollBack as RollBackT
-use Rattle.store.proofs.rollback.RollBack.Laws as RollBackL
 use Rattle.store.proofs.scan.Look as LookT
 use Rattle.store.proofs.scan.Look.Laws as LookL
 
@@ -19,13 +17,6 @@ kept = record {
   val = LL.val KeptT.the-type KeptL.the-laws; tells = LL.tells KeptT.the-type KeptL.the-laws;
   wt = λ 𝓤 H A G z g. LL.lawful KeptT.the-type KeptL.the-laws 𝓤 H A G .typed z _ g .0; last = λ x. tt;
   silent = λ x f. refl; makes = λ 𝓤 H A _. LL.makes KeptT.the-type KeptL.the-plain 𝓤 H A }
-
-abbrev pub rollBack : Shown
-rollBack = record {
-  row = RollBackT.the-row; mir = RollBackL.mir;
-  val = LL.val RollBackT.the-type RollBackL.the-laws; tells = LL.tells RollBackT.the-type RollBackL.the-laws;
-  wt = λ 𝓤 H A G z g. LL.lawful RollBackT.the-type RollBackL.the-laws 𝓤 H A G .typed z _ g .0; last = λ x. tt;
-  silent = λ x f. refl; makes = λ 𝓤 H A _. LL.makes RollBackT.the-type RollBackL.the-plain 𝓤 H A }
 
 abbrev pub look : Shown
 look = record {

@@ -2,6 +2,7 @@
 -- Assumes nothing.
 use Rattle.plan_write.specs.declared.Write.{Write}
 use Rattle.plan_purge.specs.declared.Purge.{Purge}
+use Rattle.plan_rollback.specs.declared.RollBack.{RollBack}
 use Rattle.store.specs.declared.Kept.{Kept}
 
 abbrev pub doneWrite : Write → Kept
@@ -9,3 +10,6 @@ doneWrite w = record { answer = w .answer; state = w .state }
 
 abbrev pub donePurge : Purge → Kept
 donePurge w = record { answer = w .answer; state = w .state }
+
+abbrev pub doneRollBack : RollBack → Kept
+doneRollBack w = record { answer = w .answer; state = w .state }

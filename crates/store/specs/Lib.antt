@@ -1,4 +1,3 @@
 pub mod Kept
 pub mod Scan
-pub mod RollBack
 pub mod Done

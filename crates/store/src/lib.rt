@@ -13,7 +13,6 @@ use rules::State;
 
 mod books;
 mod done;
-mod rollback;
 mod scan;
 
 // What a call answers, and the books after it.
@@ -92,10 +91,10 @@ pub fn roll_back(state: State, entries: &mut [Entry], rows: &mut [u64], a: u64) 
     let n = entries.len();
     let m = rows.len();
     let t = lent::load_all(entries);
-    let w = rollback::roll_back_core(state, t, n, m, a);
-    rollback::put_roll_back(entries, w);
-    rollback::roll_back_rows(rows, w);
-    rollback::roll_back_done(w)
+    let w = plan_rollback::roll_back_core(state, t, n, m, a);
+    plan_rollback::put_roll_back(entries, w);
+    plan_rollback::roll_back_rows(rows, w);
+    done::roll_back_done(w)
 }
 
 // Opening a page at epoch a; 0 means LCE. Refusals, in this order: 5, 4, 6, 7.

@@ -1,4 +1,4 @@
--- What a roll back decides by value is what step leaves. Definitions: specs/RollBack.antt.
+-- What a roll back decides by value is what step leaves. Definitions: plan_rollback/specs/RollBack.antt.
 -- In order: entries saved one by one; an accepted call; a refused one; the call.
 -- Assumes nothing.
 use mathlib.Core.Path.{_≡_, refl, ap, _∙_}
@@ -27,9 +27,9 @@ use Rattle.lent.proofs.Lists.{filled-all}
 use Rattle.undo.specs.Rolled.{rolledOf, rolledBelow}
 use Rattle.undo.proofs.Laws.Rolled.{asRolled, rolled-below, rows-below}
 use Rattle.lent.proofs.Saved.{saved-none}
+use Rattle.plan_rollback.specs.RollBack.{leftAlone, carriedOut, rollBackOf, placeOf, entriesAfter, rowsAfter}
 use Rattle.store.specs.Kept.{storeOf, Left}
-use Rattle.store.specs.RollBack.{leftAlone, carriedOut, rollBackOf, placeOf, entriesAfter, rowsAfter}
-use Rattle.store.specs.RollBack.{doneRollBack}
+use Rattle.store.specs.Done.{doneRollBack}
 use Rattle.store.proofs.Laws.Kept.{sound-is}
 use Rattle.compact.proofs.Laws.Areas.{put-next, copied-all}
 

@@ -8,26 +8,28 @@ use denote.Triple.Table.{entered, cited}
 use Rattle.rules.specs.Step.{step, rollback}
 use Rattle.rules.specs.declared.Entry.{Entry}
 use Rattle.rules.specs.declared.State.{State}
+use Rattle.plan_rollback.specs.RollBack.{rollBackOf, placeOf, entriesAfter, rowsAfter}
+use Rattle.plan_rollback.specs.declared.RollBack.{RollBack}
 use Rattle.store.specs.Kept.{storeOf, Left}
-use Rattle.store.specs.RollBack.{rollBackOf, placeOf, entriesAfter, rowsAfter, doneRollBack}
+use Rattle.store.specs.Done.{doneRollBack}
 use Rattle.store.specs.declared.Kept.{Kept}
-use Rattle.store.specs.declared.rollback.RollBack.{RollBack}
 use Rattle.lent.specs.Shapes.{saved}
 use Rattle.lent.proofs.Shown.{LoadAll}
 use Rattle.lent.proofs.Rewrite1.{Core, Put, Wrote as WroteRows, Fin, meets}
 use Rattle.lent.proofs.load_all.Symbol as load-all
 use Rattle.lent.proofs.load_all.Met as load-all-thm
-use Rattle.store.proofs.Types.{kept, rollBack}
+use Rattle.plan_rollback.proofs.Types.{rollBack}
+use Rattle.plan_rollback.proofs.roll_back_core.Symbol as core
+use Rattle.plan_rollback.proofs.roll_back_core.Met as core-thm
+use Rattle.plan_rollback.proofs.put_roll_back.Symbol as put
+use Rattle.plan_rollback.proofs.put_roll_back.Met as put-thm
+use Rattle.plan_rollback.proofs.roll_back_rows.Symbol as wr
+use Rattle.plan_rollback.proofs.roll_back_rows.Met as wr-thm
+use Rattle.store.proofs.Types.{kept}
 use Rattle.store.proofs.Laws.Write.{state-8}
 use Rattle.store.proofs.Laws.RollBack.{roll-back-left}
-use Rattle.store.proofs.rollback.roll_back_core.Symbol as core
-use Rattle.store.proofs.rollback.roll_back_core.Met as core-thm
-use Rattle.store.proofs.rollback.put_roll_back.Symbol as put
-use Rattle.store.proofs.rollback.put_roll_back.Met as put-thm
-use Rattle.store.proofs.rollback.roll_back_rows.Symbol as wr
-use Rattle.store.proofs.rollback.roll_back_rows.Met as wr-thm
-use Rattle.store.proofs.rollback.roll_back_done.Symbol as fin
-use Rattle.store.proofs.rollback.roll_back_done.Met as fin-thm
+use Rattle.store.proofs.done.roll_back_done.Symbol as fin
+use Rattle.store.proofs.done.roll_back_done.Met as fin-thm
 use Rattle.store.proofs.roll_back.Key.{name as #store·roll-back}
 use Rattle.store.proofs.roll_back as f
 use Rattle.store.proofs.roll_back.Statement as stated
@@ -50,10 +52,10 @@ roll-back-spec 𝓤 H 𝓜 𝓖 𝓡 =
     (cited 𝓤 H (LoadAll 𝓤 H (𝓖 .A) (𝓜 .mem) (𝓡 .run)) 𝓜 𝓡 code.env load-all.name load-all.routine
       code.calls-lent·load-all (load-all-thm.met 𝓤 H 𝓜 𝓖 𝓡))
     (cited 𝓤 H (Core rollBack kept rollBackOf entriesBy rowsAfter doneRollBack Ends 𝓤 H (𝓖 .A)) 𝓜 𝓡 code.env
-      core.name core.routine code.calls-store·rollback·roll-back-core (core-thm.met 𝓤 H 𝓜 𝓖 𝓡))
+      core.name core.routine code.calls-plan-rollback·roll-back-core (core-thm.met 𝓤 H 𝓜 𝓖 𝓡))
     (cited 𝓤 H (Put rollBack kept rollBackOf entriesBy rowsAfter doneRollBack Ends 𝓤 H (𝓖 .A)) 𝓜 𝓡 code.env
-      put.name put.routine code.calls-store·rollback·put-roll-back (put-thm.met 𝓤 H 𝓜 𝓖 𝓡))
+      put.name put.routine code.calls-plan-rollback·put-roll-back (put-thm.met 𝓤 H 𝓜 𝓖 𝓡))
     (cited 𝓤 H (WroteRows rollBack kept rollBackOf entriesBy rowsAfter doneRollBack Ends 𝓤 H (𝓖 .A)) 𝓜 𝓡 code.env
-      wr.name wr.routine code.calls-store·rollback·roll-back-rows (wr-thm.met 𝓤 H 𝓜 𝓖 𝓡))
+      wr.name wr.routine code.calls-plan-rollback·roll-back-rows (wr-thm.met 𝓤 H 𝓜 𝓖 𝓡))
     (cited 𝓤 H (Fin rollBack kept rollBackOf entriesBy rowsAfter doneRollBack Ends 𝓤 H (𝓖 .A)) 𝓜 𝓡 code.env
-      fin.name fin.routine code.calls-store·rollback·roll-back-done (fin-thm.met 𝓤 H 𝓜 𝓖 𝓡)))
+      fin.name fin.routine code.calls-store·done·roll-back-done (fin-thm.met 𝓤 H 𝓜 𝓖 𝓡)))

@@ -1,5 +1,5 @@
 -- What a roll back decides by value. 01 "The books", Roll back; "Lots", Roll back.
--- In order: the call, the entries written, the rows written, the end. Laws: proofs/Laws/RollBack.antt.
+-- In order: the call, the entries written, the rows written. Laws: store/proofs/Laws/RollBack.antt.
 -- Assumes nothing.
 use mathlib.Core.Bool.{cond}
 use mathlib.Core.List.{List}
@@ -16,8 +16,7 @@ use Rattle.lent.specs.declared.Table.{Table}
 use Rattle.undo.specs.Rolled.{rolledOf, rolledBelow, rowsRolledBelow}
 use Rattle.undo.specs.declared.Rolled.{Rolled}
 use Rattle.admit.specs.Sound.{soundOf}
-use Rattle.store.specs.declared.Kept.{Kept}
-use Rattle.store.specs.declared.rollback.RollBack.{RollBack}
+use Rattle.plan_rollback.specs.declared.RollBack.{RollBack}
 
 -- entries and places after the roll back of transaction i
 abbrev pub rolledFrom : ℕ → State → Table → Rolled
@@ -50,6 +49,3 @@ entriesAfter w = w .table .at
 abbrev pub rowsAfter : List ℕ → RollBack → List ℕ
 rowsAfter rows w =
     cond (eqb (w .todo) 1) (rowsRolledBelow (w .txn) partitionsMax (rolledOf (w .old) (w .places)) rows) rows
-
-abbrev pub doneRollBack : RollBack → Kept
-doneRollBack w = record { answer = w .answer; state = w .state }

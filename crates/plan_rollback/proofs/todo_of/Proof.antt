@@ -1,4 +1,4 @@
--- `store::rollback::todo_of` meets its contract, by whether the answer is a refusal.
+-- `plan_rollback::todo_of` meets its contract, by whether the answer is a refusal.
 -- Assumes nothing.
 use mathlib.Core.Path.{_≡_, refl}
 use mathlib.Core.Bool.{true}
@@ -14,8 +14,8 @@ use Rattle.rules.specs.declared.Answer.the-variants.{EndedRo, Scanned, Advanced
 use Rattle.rules.specs.declared.Answer.the-variants.{Refused}
 use Rattle.rules.proofs.Answer.{the-type}
 use Rattle.rules.proofs.Laws.Calls.{refused}
-use Rattle.store.proofs.rollback.todo_of.Statement.{statement}
-use Rattle.store.proofs.rollback.todo_of.Tie as tie
+use Rattle.plan_rollback.proofs.todo_of.Statement.{statement}
+use Rattle.plan_rollback.proofs.todo_of.Tie as tie
 
 -- the variants of Answer but Refused, by their place in its declaration
 abbrev others : List ℕ

@@ -1,4 +1,4 @@
--- `store::rollback::roll_back_core` meets its contract, by whether the manager's part is accepted.
+-- `plan_rollback::roll_back_core` meets its contract, by whether the manager's part is accepted.
 -- Assumes nothing.
 use mathlib.Core.Path.{_≡_, refl, sym, ap, _∙_}
 use mathlib.Core.Bool.{Bool, true, false, cond}
@@ -7,9 +7,9 @@ use native.Mathlib.Omega.{arith}
 use borrow.Author.Needs.{needs}
 use Rattle.rules.specs.Answers.{accepted}
 use Rattle.txn.specs.declared.Managed.{Managed}
-use Rattle.store.specs.RollBack.{rollBackOf}
-use Rattle.store.proofs.rollback.roll_back_core.Statement.{statement}
-use Rattle.store.proofs.rollback.roll_back_core.Tie as tie
+use Rattle.plan_rollback.specs.RollBack.{rollBackOf}
+use Rattle.plan_rollback.proofs.roll_back_core.Statement.{statement}
+use Rattle.plan_rollback.proofs.roll_back_core.Tie as tie
 
 -- todo is 1 just where the answer is no refusal
 refused-of : (b : Bool) → cond {A = ℕ} b 1 0 ≡ 0 → b ≡ false

@@ -3,9 +3,8 @@ ghost use mathlib.Core.Path.{_≡_};
 ghost use mathlib.Core.Bool.{cond};
 ghost use Rattle.rules.specs.Answers.{accepted};
 ghost use Rattle.lent.specs.Shapes.{saved};
-ghost use Rattle.store.specs.RollBack.{rollBackOf, placeOf, entriesAfter, rowsAfter, doneRollBack};
+ghost use Rattle.plan_rollback.specs.RollBack.{rollBackOf, placeOf, entriesAfter, rowsAfter};
 
-use crate::Kept;
 use admit::sound;
 use lent::Table;
 use rules::Answer;
@@ -111,12 +110,4 @@ pub fn roll_back_rows(rows: &mut [u64], w: RollBack)
     let old = w.old;
     let places = w.places;
     undo::roll_rows(rows, old, places, w.txn);
-}
-
-pub fn roll_back_done(w: RollBack) -> Kept
-    ensures { λ r. ⌜ r ≡ doneRollBack w ⌝ }
-{
-    let answer = w.answer;
-    let state = w.state;
-    Kept { answer: answer, state: state }
 }

@@ -1,10 +1,10 @@
--- `store::rollback::roll_back_rows` meets its contract, by whether anything is to be done.
+-- `plan_rollback::roll_back_rows` meets its contract, by whether anything is to be done.
 -- Assumes nothing.
 use native.Mathlib.Omega.{arith}
 use borrow.Author.Needs.{needs}
 use borrow.Author.Tests.{eq-eqb, ne-eqb}
-use Rattle.store.proofs.rollback.roll_back_rows.Statement.{statement}
-use Rattle.store.proofs.rollback.roll_back_rows.Tie as tie
+use Rattle.plan_rollback.proofs.roll_back_rows.Statement.{statement}
+use Rattle.plan_rollback.proofs.roll_back_rows.Tie as tie
 
 returns : tie.Need-returns
 returns c = rw (ne-eqb _ _ (c .if1 .taken))

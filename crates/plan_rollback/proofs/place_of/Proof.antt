@@ -1,7 +1,7 @@
--- `store::rollback::place_of` meets its contract. Assumes nothing.
+-- `plan_rollback::place_of` meets its contract. Assumes nothing.
 use borrow.Author.Tests.{eq-eqb, ne-eqb}
-use Rattle.store.proofs.rollback.place_of.Statement.{statement}
-use Rattle.store.proofs.rollback.place_of.Tie as tie
+use Rattle.plan_rollback.proofs.place_of.Statement.{statement}
+use Rattle.plan_rollback.proofs.place_of.Tie as tie
 
 returns : tie.Need-returns
 returns c = simp (eq-eqb _ _ (c .if1 .taken))
