@@ -11,7 +11,7 @@ use Rattle.rules.specs.WellFormed.{managerOk}
 use Rattle.rules.specs.declared.Entry.{Entry}
 use Rattle.rules.specs.declared.State.{State}
 use Rattle.lent.specs.declared.Table.{Table}
-use Rattle.partition.specs.Sound.{partitionsOk}
+use Rattle.partition_sound.specs.Sound.{partitionsOk}
 
 -- m rows and n entries are lent
 unfoldable pub lengthsAre : ℕ → ℕ → Bool
