@@ -185,7 +185,7 @@ fn purge(state: State, table: Table, rows: &mut [u64], lot: u64, out: &mut [u8])
     let value = [reply.value];
     let size = print_values(b'p', reply.number, &value, out);
     send(out, size);
-    let live = rewrite::force::in_force(area(rows, old), area(rows, spare), answer);
+    let live = live_part::in_force(area(rows, old), area(rows, spare), answer);
     let more = print_part(live, out);
     let s = done.state;
     let t = done.table;

@@ -8,9 +8,9 @@ use Rattle.rules.specs.WellFormed.{managerOk}
 use Rattle.rules.specs.Calls.{beginAnswer, closeAnswer}
 use Rattle.rules.specs.declared.Manager.{Manager}
 use Rattle.txn.specs.Managed.{managed}
-use Rattle.rewrite.specs.Plan.{spansIn, planOf, rollEpochs, purgeEpochs}
+use Rattle.rewrite_plan.specs.Plan.{spansIn, planOf, rollEpochs, purgeEpochs}
 use Rattle.visible.specs.declared.Area.{Area}
-use Rattle.rewrite.specs.declared.Plan.{Plan}
+use Rattle.rewrite_plan.specs.declared.Plan.{Plan}
 
 abbrev pub begunOnly : Manager → Manager
 begunOnly m = managed (beginAnswer (true && managerOk m) m) (begunManager m) m .manager

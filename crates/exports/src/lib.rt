@@ -15,7 +15,7 @@ mod numbered;
 use numbered::command_of;
 use numbered::reply_to;
 use numbered::Replied;
-use rewrite::Plan;
+use rewrite_plan::Plan;
 use rewrite::Rewritten;
 use rules::Entry;
 use rules::Manager;
@@ -56,14 +56,14 @@ pub extern "C" fn nizgulk_scan(v: View, t: Area, rows: usize, bitmap: &mut [u8])
 pub extern "C" fn nizgulk_purge_plan(a: Area, l: u64) -> Plan
     ensures { λ r. ⌜ r ≡ purgePlan a l ⌝ }
 {
-    rewrite::plans::purge_plan(a, l)
+    rewrite_plan::purge_plan(a, l)
 }
 
 #[no_mangle]
 pub extern "C" fn nizgulk_roll_plan(a: Area, i: u64) -> Plan
     ensures { λ r. ⌜ r ≡ rollPlan a i ⌝ }
 {
-    rewrite::plans::roll_plan(a, i)
+    rewrite_plan::roll_plan(a, i)
 }
 
 #[no_mangle]

@@ -15,10 +15,10 @@ use Rattle.rules.specs.declared.Partition.{Partition}
 use Rattle.rules.specs.declared.State.{State}
 use Rattle.lent.specs.Entries.{none}
 use Rattle.lent.specs.declared.Table.{Table}
-use Rattle.rewrite.specs.Plan.{spansIn, planOf, purgeEpochs}
+use Rattle.rewrite_plan.specs.Plan.{spansIn, planOf, purgeEpochs}
 use Rattle.rewrite.specs.Kept.{rewrittenOf}
 use Rattle.visible.specs.declared.Area.{Area}
-use Rattle.rewrite.specs.declared.Plan.{Plan}
+use Rattle.rewrite_plan.specs.declared.Plan.{Plan}
 use Rattle.compact.specs.Areas.{baseOf, areaAt, movedTo}
 use Rattle.admit.specs.Admit.{admitted, byAdmission}
 use Rattle.plan_purge.specs.declared.Purge.{Purge}

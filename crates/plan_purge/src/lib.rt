@@ -8,7 +8,7 @@ use admit::Admitted;
 use admit::admit;
 use admit::limits::ENTRIES_LENT;
 use lent::Table;
-use rewrite::Plan;
+use rewrite_plan::Plan;
 use rules::Answer;
 use rules::Entry;
 use rules::Partition;
@@ -62,7 +62,7 @@ fn moved(state: State, n: usize, p: usize, q: Partition, a: Area, l: u64) -> Pur
 {
     let partitions = state.partitions;
     let spare = partitions.spare;
-    let plan = rewrite::plans::purge_plan(a, l);
+    let plan = rewrite_plan::purge_plan(a, l);
     let done = rewrite::keep::rewritten(a, plan);
     let next = compact::areas::moved(partitions, p, done);
     let mut after = state;
@@ -90,7 +90,7 @@ fn purge_at(state: State, t: Table, n: usize, p: usize, q: Partition) -> Purge
 {
     let a = compact::areas::area_of(t, q);
     let l = state.manager.clock.lse;
-    if rewrite::tests::skips(a, l) {
+    if rewrite_plan::skips(a, l) {
         return unwritten(state, n, Answer::Skipped { rows: q.rows });
     }
     moved(state, n, p, q, a, l)

@@ -1,6 +1,3 @@
-pub mod Area
-pub mod Tests
-pub mod Plan
 pub mod Ends
 pub mod Back
 pub mod Keep

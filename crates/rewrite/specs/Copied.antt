@@ -13,7 +13,7 @@ use Rattle.rules.specs.declared.Entry.{Entry}
 use Rattle.visible.specs.Bare.{entriesIn}
 use Rattle.rewrite.specs.Kept.{kept, endsFit}
 use Rattle.visible.specs.declared.Area.{Area}
-use Rattle.rewrite.specs.declared.Plan.{Plan}
+use Rattle.rewrite_plan.specs.declared.Plan.{Plan}
 
 -- the words of the spans that the plan keeps, in order
 unfoldable pub keptWords : List ℕ → List Entry → List ℕ → List ℕ

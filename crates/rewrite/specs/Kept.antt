@@ -14,7 +14,7 @@ use Rattle.rules.specs.Rewrite.{joined}
 use Rattle.rules.specs.declared.Entry.{Entry}
 use Rattle.visible.specs.Bare.{entriesIn, noEntry, bare}
 use Rattle.visible.specs.declared.Area.{Area}
-use Rattle.rewrite.specs.declared.Plan.{Plan}
+use Rattle.rewrite_plan.specs.declared.Plan.{Plan}
 use Rattle.rewrite.specs.declared.Rewritten.{Rewritten}
 
 -- a span with a new epoch; a mark that is no delete's is that of rows

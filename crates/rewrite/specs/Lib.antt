@@ -1,4 +1,3 @@
-pub mod Plan
 pub mod Kept
 pub mod Copied
 pub mod Passes

@@ -1,9 +1,9 @@
 // The kept rows, copied inside the lent rows from the area of a partition to another. 01 "Lots", Roll back,
 // Purge.
 use crate::ENTRIES_MAX;
-use crate::Plan;
 use crate::ROWS_MAX;
 use crate::ends::ends_fit;
+use rewrite_plan::Plan;
 use visible::Area;
 use visible::places::in_use;
 

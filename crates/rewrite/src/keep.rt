@@ -1,8 +1,8 @@
 // The entries that a plan keeps, one after the other. 01 "Lots", Roll back, Purge.
 use crate::ENTRIES_MAX;
-use crate::Plan;
 use crate::Rewritten;
 use crate::ends::ends_fit;
+use rewrite_plan::Plan;
 use rules::Entry;
 use visible::Area;
 use visible::places::in_use;

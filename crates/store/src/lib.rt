@@ -160,7 +160,7 @@ pub fn advance_lse(state: State, entries: &[Entry], rows: &[u64], a: u64) -> Kep
     books::advance_lse_core(state, t, n, m, a)
 }
 
-// Purging partition p at LSE. Refusals, in this order: 5, 1. rewrite::force::in_force returns the part in force.
+// Purging partition p at LSE. Refusals, in this order: 5, 1. live_part::in_force returns the part in force.
 pub fn purge(state: State, entries: &mut [Entry], rows: &mut [u64], p: u64) -> Kept
     ensures { λ r. ⌜ Left (step (purge p) (storeOf state (now (rows .entry)) (now (entries .entry))))
         r (now (rows .exit)) (now (entries .exit)) ⌝ }

@@ -47,10 +47,10 @@ fn roll_one(w: Rolled, p: usize, i: u64) -> Rolled
     let ps = w.partitions;
     let q = ps.at[p];
     let a = areas::area_of(t, q);
-    if !rewrite::tests::has_epoch(a, i) {
+    if !rewrite_plan::has_epoch(a, i) {
         return w;
     }
-    let plan = rewrite::plans::roll_plan(a, i);
+    let plan = rewrite_plan::roll_plan(a, i);
     let done = rewrite::keep::rewritten(a, plan);
     let base = areas::entry_base(ps.spare);
     let kept = done.area;
@@ -81,10 +81,10 @@ fn copy_one(rows: &mut [u64], w: Rolled, p: usize, i: u64)
     let ps = w.partitions;
     let q = ps.at[p];
     let a = areas::area_of(t, q);
-    if !rewrite::tests::has_epoch(a, i) {
+    if !rewrite_plan::has_epoch(a, i) {
         return;
     }
-    let plan = rewrite::plans::roll_plan(a, i);
+    let plan = rewrite_plan::roll_plan(a, i);
     let from = areas::row_base(q.area);
     let to = areas::row_base(ps.spare);
     rewrite::copying::copy_kept(rows, a, plan, from, to);

@@ -22,7 +22,7 @@ use Rattle.rules.specs.declared.Entry.{Entry}
 use Rattle.rules.proofs.Laws.Span.{end-ok, endsOk-le}
 use Rattle.rules.proofs.Laws.Rewrite.{joins}
 use Rattle.visible.specs.Bare.{bare}
-use Rattle.rewrite.specs.Plan.{rollEpochs, purgeEpochs}
+use Rattle.rewrite_plan.specs.Plan.{rollEpochs, purgeEpochs}
 use Rattle.rewrite.specs.Kept.{kept, asRewritten}
 
 -- a span with as many words, all 0

@@ -30,13 +30,13 @@ use Rattle.rules.proofs.Laws.Span.{end-ok, endsOk-le, length-entriesOf}
 use Rattle.rules.proofs.Laws.Rewrite.{words-joined}
 use Rattle.rules.proofs.Laws.SpansOk.{MarkOk, EpochOk}
 use Rattle.visible.specs.Bare.{entriesIn, noEntry}
-use Rattle.rewrite.specs.Plan.{spansIn, planOf, rollEpochs, purgeEpochs}
+use Rattle.rewrite_plan.specs.Plan.{spansIn, planOf, rollEpochs, purgeEpochs}
 use Rattle.rewrite.specs.Kept.{renewed, kept, endsFit, areaOf, asRewritten, keptOf, rewrittenOf}
 use Rattle.rewrite.specs.Copied.{keptWords, areasApart, copyOk, rowsCopied}
 use Rattle.visible.specs.declared.Area.{Area}
-use Rattle.rewrite.specs.declared.Plan.{Plan}
+use Rattle.rewrite_plan.specs.declared.Plan.{Plan}
 use Rattle.rewrite.proofs.Laws.Copied.{areas-apart}
-use Rattle.rewrite.proofs.Laws.Plan.{length-roll, length-purge}
+use Rattle.rewrite_plan.proofs.Laws.Plan.{length-roll, length-purge}
 use Rattle.rewrite.proofs.Laws.Blank.{blank, bare-blank, has-blank}
 use Rattle.rewrite.proofs.Laws.Blank.{skips-blank, roll-blank, purge-blank}
 use Rattle.rewrite.proofs.Laws.Blank.{kept-blank, joined-blank, rewritten-blank}

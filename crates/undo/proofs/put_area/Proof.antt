@@ -12,7 +12,7 @@ use borrow.Author.Needs.{needs}
 use Rattle.rules.specs.declared.Entry.{Entry}
 use Rattle.lent.specs.Entries.{none}
 use Rattle.visible.proofs.Laws.Places.{unmapped}
-use Rattle.rewrite.proofs.Laws.Area.{Uses, uses}
+use Rattle.rewrite_plan.proofs.Laws.Area.{Uses, uses}
 use Rattle.undo.proofs.Laws.Rolled.{paste-over}
 use Rattle.undo.proofs.put_area.Statement.{statement}
 use Rattle.undo.proofs.put_area.Tie as tie

@@ -7,7 +7,7 @@ use Rattle.visible.specs.Bare.{entriesIn}
 use Rattle.rewrite.specs.Kept.{endsFit}
 use Rattle.rewrite.specs.Copied.{copyOk, rowsCopied}
 use Rattle.visible.proofs.Laws.Places.{unmapped}
-use Rattle.rewrite.proofs.Laws.Area.{Uses, uses}
+use Rattle.rewrite_plan.proofs.Laws.Area.{Uses, uses}
 use borrow.Author.Needs.{needs}
 use Rattle.rewrite.proofs.copying.copy_kept.Statement.{statement}
 use Rattle.rewrite.proofs.copying.copy_kept.Tie as tie

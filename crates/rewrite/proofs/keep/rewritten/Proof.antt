@@ -4,7 +4,7 @@ use mathlib.Core.Path.{refl, sym, _∙_}
 use borrow.Author.Tests.{not-true, not-false}
 use Rattle.rewrite.specs.Kept.{endsFit, rewrittenOf}
 use Rattle.visible.proofs.Laws.Places.{unmapped}
-use Rattle.rewrite.proofs.Laws.Area.{Uses, uses}
+use Rattle.rewrite_plan.proofs.Laws.Area.{Uses, uses}
 use borrow.Author.Needs.{needs}
 use Rattle.rewrite.proofs.keep.rewritten.Statement.{statement}
 use Rattle.rewrite.proofs.keep.rewritten.Tie as tie
