@@ -8,8 +8,6 @@ use Rattle.rules.proofs.Answer.Laws as AnswerL
 use Rattle.lent.proofs.Shown.{Shown}
 use Rattle.store.proofs.Kept as KeptT
 use Rattle.store.proofs.Kept.Laws as KeptL
-use Rattle.store.proofs.scan.Look as LookT
-use Rattle.store.proofs.scan.Look.Laws as LookL
 
 abbrev pub kept : Shown
 kept = record {
@@ -17,13 +15,6 @@ kept = record {
   val = LL.val KeptT.the-type KeptL.the-laws; tells = LL.tells KeptT.the-type KeptL.the-laws;
   wt = λ 𝓤 H A G z g. LL.lawful KeptT.the-type KeptL.the-laws 𝓤 H A G .typed z _ g .0; last = λ x. tt;
   silent = λ x f. refl; makes = λ 𝓤 H A _. LL.makes KeptT.the-type KeptL.the-plain 𝓤 H A }
-
-abbrev pub look : Shown
-look = record {
-  row = LookT.the-row; mir = LookL.mir;
-  val = LL.val LookT.the-type LookL.the-laws; tells = LL.tells LookT.the-type LookL.the-laws;
-  wt = λ 𝓤 H A G z g. LL.lawful LookT.the-type LookL.the-laws 𝓤 H A G .typed z _ g .0; last = λ x. tt;
-  silent = λ x f. refl; makes = λ 𝓤 H A _. LL.makes LookT.the-type LookL.the-plain 𝓤 H A }
 
 abbrev pub answer : Shown
 answer = record {

@@ -1,5 +1,5 @@
 -- What a call by value keeps, and what a public call leaves, beside rules' step.
--- In order: storeOf, Left, the calls on the manager. Laws: proofs/Laws/Kept.antt.
+-- In order: storeOf, Left, Showed, the calls on the manager. Laws: proofs/Laws/Kept.antt.
 -- Assumes nothing.
 use mathlib.Core.Path.{_≡_}
 use mathlib.Core.Bool.{cond}
@@ -30,6 +30,10 @@ storeOf s rows entries = record { state = s; rows = rows; entries = entries }
 -- a call answers what step says; the books that it hands back, and the lent areas at its end, are step's store
 abbrev pub Left : Outcome → Kept → List ℕ → List Entry → Type 0
 Left out r rows entries = (r .answer ≡ out .answer) × (storeOf (r .state) rows entries ≡ out .store)
+
+-- a scan answers what step says and leaves these bytes; the store st that it read is step's at the end too
+abbrev pub Showed : Outcome → Answer → List ℕ → Store → Type 0
+Showed out r bytes st = (r ≡ out .answer) × (bytes ≡ out .bitmap) × (st ≡ out .store)
 
 -- partition p in area p, all empty, and the last area spare
 unfoldable pub freshPartitions : Partitions

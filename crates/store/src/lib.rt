@@ -4,8 +4,7 @@ ghost use mathlib.Core.Path.{_≡_};
 ghost use Rattle.rules.specs.Step.{step, begin, append, clear, commit, rollback, create, beginRo, endRo, scan};
 ghost use Rattle.rules.specs.Step.{advanceLse, purge};
 ghost use Rattle.rules.specs.declared.Reader.the-variants.{Rw, Ro};
-ghost use Rattle.store.specs.Kept.{storeOf, Left};
-ghost use Rattle.store.specs.Scan.{Showed};
+ghost use Rattle.store.specs.Kept.{storeOf, Left, Showed};
 
 use rules::Answer;
 use rules::Entry;
@@ -13,7 +12,6 @@ use rules::State;
 
 mod books;
 mod done;
-mod scan;
 
 // What a call answers, and the books after it.
 pub struct Kept {
@@ -129,9 +127,9 @@ pub fn scan_rw(state: State, entries: &[Entry], rows: &[u64], bitmap: &mut [u8],
     let m = rows.len();
     let k = bitmap.len();
     let l = lent::load_all(entries);
-    let w = scan::rw_core(state, l, n, m, k, i, p);
-    scan::write_bits(bitmap, w);
-    scan::look_done(w)
+    let w = plan_scan::rw_core(state, l, n, m, k, i, p);
+    plan_scan::write_bits(bitmap, w);
+    plan_scan::look_done(w)
 }
 
 // The read-only transaction of ticket t scans partition p. Refusals, in this order: 5, 1, 2, 3.
@@ -144,9 +142,9 @@ pub fn scan_ro(state: State, entries: &[Entry], rows: &[u64], bitmap: &mut [u8],
     let m = rows.len();
     let k = bitmap.len();
     let l = lent::load_all(entries);
-    let w = scan::ro_core(state, l, n, m, k, t, p);
-    scan::write_bits(bitmap, w);
-    scan::look_done(w)
+    let w = plan_scan::ro_core(state, l, n, m, k, t, p);
+    plan_scan::write_bits(bitmap, w);
+    plan_scan::look_done(w)
 }
 
 // Moving LSE to a; 0 means as far as it may go. Refusals, in this order: 5, 4, 10.

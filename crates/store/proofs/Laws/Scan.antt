@@ -1,21 +1,17 @@
--- What a scan decides by value is what step leaves. Definitions: specs/Scan.antt.
--- In order: the bytes copied, a refusal, the bytes written, a partition's entries, a
--- scan, the two readers.
+-- What a scan decides by value is what step leaves. Definitions: plan_scan/specs/Scan.antt.
+-- In order: a refusal, the bytes written, a partition's entries, a scan, the two readers.
 -- Assumes nothing.
 use mathlib.Core.Path.{_≡_, refl, sym, ap, _∙_}
-use mathlib.Core.Bool.{Bool, true, cond}
-use mathlib.Core.List.{List, [], _∷_, _++_, append-assoc, append-nil}
-use Prim.Native.Nat.{ℕ, suc, _+_, _*_, _≤_, _<_}
+use mathlib.Core.Bool.{Bool, true}
+use mathlib.Core.List.{List}
+use Prim.Native.Nat.{ℕ, _*_, _≤_, _<_}
 use native.Mathlib.Omega.{arith}
-use lib.ListN.{length, take, drop, getD, set, replicate, length-map, drop-of-length-le}
-use lib.Seq.{drop-cons, take-suc, set-at, take-at, take-take, length-take-le}
+use lib.ListN.{length, drop}
+use lib.Seq.{take-at, take-take}
 use lib.Dec.{ltb, leb}
-use mir.Val.{Val}
-use denote.Laws.{Is}
-use denote.Struct.Declared.{row}
-use borrow.Author.Tests.{lt-ltb, le-leb, lt-leb, ltb-true, ltb-false, leb-false}
+use borrow.Author.Tests.{lt-ltb, le-leb, ltb-false, leb-false}
 use Rattle.lists.specs.Lists.{ones}
-use Rattle.lists.proofs.Laws.Bools.{split, and-false}
+use Rattle.lists.proofs.Laws.Bools.{split}
 use Rattle.rules.specs.Limits.{partitionsMax, areasMax, rowsMax, entriesMax}
 use Rattle.rules.specs.Bitmap.{bytesFor, packed, bitmapAfter}
 use Rattle.rules.specs.Store.{Store, entriesAt, rowsAt, spansAt}
@@ -34,7 +30,7 @@ use Rattle.rules.proofs.Laws.Calls.{refused}
 use Rattle.rules.proofs.Laws.Hides.{length-flags}
 use Rattle.rules.proofs.Laws.SpansTest.{EntriesOk, entries-ok}
 use Rattle.rules.proofs.Laws.WellFormed.{StoreOk, store-facts}
-use Rattle.lent.specs.Entries.{none, tableOf}
+use Rattle.lent.specs.Entries.{tableOf}
 use Rattle.lent.proofs.Lists.{filled-all}
 use Rattle.visible.specs.declared.View.{View}
 use Rattle.visible.specs.View.{seesView, appliesView}
@@ -43,30 +39,10 @@ use Rattle.visible.specs.Scan.{scanOk, scanned, bitmapScanned}
 use Rattle.visible.proofs.Laws.Scan.{spanFlags, scan-ok, scanned-spans, bitmap-spans}
 use Rattle.compact.specs.Areas.{areaAt}
 use Rattle.admit.specs.Admit.{partitionOf}
-use Rattle.store.specs.Kept.{storeOf}
-use Rattle.store.specs.Scan.{Showed, noBits, refusedLook, lookAt, rwView, roView, lookBy}
-use Rattle.store.specs.Scan.{rwLook, roLook, copied}
-use Rattle.store.specs.declared.scan.Look.{Look}
-use Rattle.store.proofs.scan.Look as look-type
+use Rattle.plan_scan.specs.Scan.{noBits, refusedLook, lookAt, rwView, roView, lookBy, rwLook, roLook, copied}
+use Rattle.plan_scan.specs.declared.Look.{Look}
+use Rattle.store.specs.Kept.{storeOf, Showed}
 use Rattle.store.proofs.Laws.Kept.{sound-is}
-
-pub look-64 : (x : Look) (vs : List Val) → Is (row look-type.the-type) x vs → length (x .bits) ≡ 64
-look-64 x vs g = sym (length-map (x .bits) (λ v. v)) ∙ g .1 .1 .1 .0 .1 .0 .1
-
--- ---- the bytes copied, by what the tests say
-
-module _ (n : ℕ) (bits lent : List ℕ) where
-  pub copied-many : 64 < n → copied n bits lent ≡ lent
-  unfolding copied
-  copied-many h = rw (lt-leb n 64 h)
-
-  pub copied-short : length lent < n → copied n bits lent ≡ lent
-  unfolding copied
-  copied-short h = rw (lt-leb n (length lent) h, and-false (leb n 64))
-
-  pub copied-fits : n ≤ 64 → n ≤ length lent → copied n bits lent ≡ take n bits ++ drop n lent
-  unfolding copied
-  copied-fits b h = rw (le-leb n 64 b, le-leb n (length lent) h)
 
 -- ---- a scan of the store st carried out, with these bytes lent
 

@@ -10,22 +10,23 @@ use Rattle.rules.specs.declared.Answer.{Answer}
 use Rattle.rules.specs.declared.Entry.{Entry}
 use Rattle.rules.specs.declared.Reader.the-variants.{Ro}
 use Rattle.rules.specs.declared.State.{State}
-use Rattle.store.specs.Kept.{storeOf}
-use Rattle.store.specs.Scan.{Showed, roLook, copied}
-use Rattle.store.specs.declared.scan.Look.{Look}
+use Rattle.plan_scan.specs.Scan.{roLook, copied}
+use Rattle.plan_scan.specs.declared.Look.{Look}
+use Rattle.store.specs.Kept.{storeOf, Showed}
 use Rattle.lent.proofs.Shown.{LoadAll}
 use Rattle.lent.proofs.Scan.{Core, Wrote, Fin, meets}
 use Rattle.lent.proofs.load_all.Symbol as load-all
 use Rattle.lent.proofs.load_all.Met as load-all-thm
-use Rattle.store.proofs.Types.{look, answer}
+use Rattle.plan_scan.proofs.Types.{look}
+use Rattle.plan_scan.proofs.ro_core.Symbol as core
+use Rattle.plan_scan.proofs.ro_core.Met as core-thm
+use Rattle.plan_scan.proofs.write_bits.Symbol as wr
+use Rattle.plan_scan.proofs.write_bits.Met as wr-thm
+use Rattle.plan_scan.proofs.look_done.Symbol as fin
+use Rattle.plan_scan.proofs.look_done.Met as fin-thm
+use Rattle.store.proofs.Types.{answer}
 use Rattle.store.proofs.Laws.Write.{state-8}
 use Rattle.store.proofs.Laws.Scan.{ro-left}
-use Rattle.store.proofs.scan.ro_core.Symbol as core
-use Rattle.store.proofs.scan.ro_core.Met as core-thm
-use Rattle.store.proofs.scan.write_bits.Symbol as wr
-use Rattle.store.proofs.scan.write_bits.Met as wr-thm
-use Rattle.store.proofs.scan.look_done.Symbol as fin
-use Rattle.store.proofs.scan.look_done.Met as fin-thm
 use Rattle.store.proofs.scan_ro.Key.{name as #store·scan-ro}
 use Rattle.store.proofs.scan_ro as f
 use Rattle.store.proofs.scan_ro.Statement as stated
@@ -51,8 +52,8 @@ scan-ro-spec 𝓤 H 𝓜 𝓖 𝓡 =
     (cited 𝓤 H (LoadAll 𝓤 H (𝓖 .A) (𝓜 .mem) (𝓡 .run)) 𝓜 𝓡 code.env load-all.name load-all.routine
       code.calls-lent·load-all (load-all-thm.met 𝓤 H 𝓜 𝓖 𝓡))
     (cited 𝓤 H (Core look answer roLook bytesBy answerOf Ends 𝓤 H (𝓖 .A)) 𝓜 𝓡 code.env core.name
-      core.routine code.calls-store·scan·ro-core (core-thm.met 𝓤 H 𝓜 𝓖 𝓡))
+      core.routine code.calls-plan-scan·ro-core (core-thm.met 𝓤 H 𝓜 𝓖 𝓡))
     (cited 𝓤 H (Wrote look answer roLook bytesBy answerOf Ends 𝓤 H (𝓖 .A)) 𝓜 𝓡 code.env wr.name
-      wr.routine code.calls-store·scan·write-bits (wr-thm.met 𝓤 H 𝓜 𝓖 𝓡))
+      wr.routine code.calls-plan-scan·write-bits (wr-thm.met 𝓤 H 𝓜 𝓖 𝓡))
     (cited 𝓤 H (Fin look answer roLook bytesBy answerOf Ends 𝓤 H (𝓖 .A)) 𝓜 𝓡 code.env fin.name
-      fin.routine code.calls-store·scan·look-done (fin-thm.met 𝓤 H 𝓜 𝓖 𝓡)))
+      fin.routine code.calls-plan-scan·look-done (fin-thm.met 𝓤 H 𝓜 𝓖 𝓡)))

@@ -10,22 +10,23 @@ use Rattle.rules.specs.declared.Answer.{Answer}
 use Rattle.rules.specs.declared.Entry.{Entry}
 use Rattle.rules.specs.declared.Reader.the-variants.{Rw}
 use Rattle.rules.specs.declared.State.{State}
-use Rattle.store.specs.Kept.{storeOf}
-use Rattle.store.specs.Scan.{Showed, rwLook, copied}
-use Rattle.store.specs.declared.scan.Look.{Look}
+use Rattle.plan_scan.specs.Scan.{rwLook, copied}
+use Rattle.plan_scan.specs.declared.Look.{Look}
+use Rattle.store.specs.Kept.{storeOf, Showed}
 use Rattle.lent.proofs.Shown.{LoadAll}
 use Rattle.lent.proofs.Scan.{Core, Wrote, Fin, meets}
 use Rattle.lent.proofs.load_all.Symbol as load-all
 use Rattle.lent.proofs.load_all.Met as load-all-thm
-use Rattle.store.proofs.Types.{look, answer}
+use Rattle.plan_scan.proofs.Types.{look}
+use Rattle.plan_scan.proofs.rw_core.Symbol as core
+use Rattle.plan_scan.proofs.rw_core.Met as core-thm
+use Rattle.plan_scan.proofs.write_bits.Symbol as wr
+use Rattle.plan_scan.proofs.write_bits.Met as wr-thm
+use Rattle.plan_scan.proofs.look_done.Symbol as fin
+use Rattle.plan_scan.proofs.look_done.Met as fin-thm
+use Rattle.store.proofs.Types.{answer}
 use Rattle.store.proofs.Laws.Write.{state-8}
 use Rattle.store.proofs.Laws.Scan.{rw-left}
-use Rattle.store.proofs.scan.rw_core.Symbol as core
-use Rattle.store.proofs.scan.rw_core.Met as core-thm
-use Rattle.store.proofs.scan.write_bits.Symbol as wr
-use Rattle.store.proofs.scan.write_bits.Met as wr-thm
-use Rattle.store.proofs.scan.look_done.Symbol as fin
-use Rattle.store.proofs.scan.look_done.Met as fin-thm
 use Rattle.store.proofs.scan_rw.Key.{name as #store·scan-rw}
 use Rattle.store.proofs.scan_rw as f
 use Rattle.store.proofs.scan_rw.Statement as stated
@@ -51,8 +52,8 @@ scan-rw-spec 𝓤 H 𝓜 𝓖 𝓡 =
     (cited 𝓤 H (LoadAll 𝓤 H (𝓖 .A) (𝓜 .mem) (𝓡 .run)) 𝓜 𝓡 code.env load-all.name load-all.routine
       code.calls-lent·load-all (load-all-thm.met 𝓤 H 𝓜 𝓖 𝓡))
     (cited 𝓤 H (Core look answer rwLook bytesBy answerOf Ends 𝓤 H (𝓖 .A)) 𝓜 𝓡 code.env core.name
-      core.routine code.calls-store·scan·rw-core (core-thm.met 𝓤 H 𝓜 𝓖 𝓡))
+      core.routine code.calls-plan-scan·rw-core (core-thm.met 𝓤 H 𝓜 𝓖 𝓡))
     (cited 𝓤 H (Wrote look answer rwLook bytesBy answerOf Ends 𝓤 H (𝓖 .A)) 𝓜 𝓡 code.env wr.name
-      wr.routine code.calls-store·scan·write-bits (wr-thm.met 𝓤 H 𝓜 𝓖 𝓡))
+      wr.routine code.calls-plan-scan·write-bits (wr-thm.met 𝓤 H 𝓜 𝓖 𝓡))
     (cited 𝓤 H (Fin look answer rwLook bytesBy answerOf Ends 𝓤 H (𝓖 .A)) 𝓜 𝓡 code.env fin.name
-      fin.routine code.calls-store·scan·look-done (fin-thm.met 𝓤 H 𝓜 𝓖 𝓡)))
+      fin.routine code.calls-plan-scan·look-done (fin-thm.met 𝓤 H 𝓜 𝓖 𝓡)))

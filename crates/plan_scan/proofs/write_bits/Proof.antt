@@ -1,4 +1,4 @@
--- `store::scan::write_bits` meets its contract. The invariant: the first i bytes are the plan's, and the
+-- `plan_scan::write_bits` meets its contract. The invariant: the first i bytes are the plan's, and the
 -- others are as they were. The measure is what is left of n.
 -- Assumes nothing.
 use mathlib.Core.Path.{_≡_, refl, sym, _∙_}
@@ -9,9 +9,9 @@ use native.Mathlib.Omega.{arith}
 use lib.ListN.{length, take, drop, length-set}
 use borrow.Author.Needs.{needs}
 use Rattle.compact.proofs.Laws.Areas.{put-next}
-use Rattle.store.proofs.Laws.Scan.{look-64, copied-many, copied-short, copied-fits}
-use Rattle.store.proofs.scan.write_bits.Statement.{statement}
-use Rattle.store.proofs.scan.write_bits.Tie as tie
+use Rattle.plan_scan.proofs.Laws.Scan.{look-64, copied-many, copied-short, copied-fits}
+use Rattle.plan_scan.proofs.write_bits.Statement.{statement}
+use Rattle.plan_scan.proofs.write_bits.Tie as tie
 
 abbrev Inv-loop : tie.InvT-loop
 Inv-loop bitmap₀ n bits i₀ bitmap i =

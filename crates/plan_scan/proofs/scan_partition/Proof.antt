@@ -1,4 +1,4 @@
--- `store::scan::scan_partition` meets its contract: too few bytes are refused, else the scan of the
+-- `plan_scan::scan_partition` meets its contract: too few bytes are refused, else the scan of the
 -- partition's entries.
 -- Assumes nothing.
 use mathlib.Core.Path.{ap, _∙_}
@@ -7,9 +7,9 @@ use borrow.Author.Tests.{lt-ltb, le-ltb}
 use Rattle.rules.specs.Bitmap.{bytesFor}
 use Rattle.rules.specs.declared.Answer.the-variants.{Scanned}
 use Rattle.visible.specs.Scan.{scanned, bitmapScanned}
-use Rattle.store.specs.Scan.{noBits, lookAt}
-use Rattle.store.proofs.scan.scan_partition.Statement.{statement}
-use Rattle.store.proofs.scan.scan_partition.Tie as tie
+use Rattle.plan_scan.specs.Scan.{noBits, lookAt}
+use Rattle.plan_scan.proofs.scan_partition.Statement.{statement}
+use Rattle.plan_scan.proofs.scan_partition.Tie as tie
 
 bytes-for-requires : tie.Need-bytes-for-requires
 bytes-for-requires c κs = search needs

@@ -1,9 +1,9 @@
--- `store::scan::rw_core` meets its contract: refused, or a scan of the partition that it is admitted to.
+-- `plan_scan::rw_core` meets its contract: refused, or a scan of the partition that it is admitted to.
 -- Assumes nothing.
 use borrow.Author.Needs.{needs}
-use Rattle.store.specs.Scan.{rwLook}
-use Rattle.store.proofs.scan.rw_core.Statement.{statement}
-use Rattle.store.proofs.scan.rw_core.Tie as tie
+use Rattle.plan_scan.specs.Scan.{rwLook}
+use Rattle.plan_scan.proofs.rw_core.Statement.{statement}
+use Rattle.plan_scan.proofs.rw_core.Tie as tie
 
 has-open-requires : tie.Need-has-open-requires
 has-open-requires c κs = search needs

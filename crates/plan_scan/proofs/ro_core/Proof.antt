@@ -1,9 +1,9 @@
--- `store::scan::ro_core` meets its contract: refused, or a scan of the partition that it is admitted to.
+-- `plan_scan::ro_core` meets its contract: refused, or a scan of the partition that it is admitted to.
 -- Assumes nothing.
 use borrow.Author.Needs.{needs}
-use Rattle.store.specs.Scan.{roLook}
-use Rattle.store.proofs.scan.ro_core.Statement.{statement}
-use Rattle.store.proofs.scan.ro_core.Tie as tie
+use Rattle.plan_scan.specs.Scan.{roLook}
+use Rattle.plan_scan.proofs.ro_core.Statement.{statement}
+use Rattle.plan_scan.proofs.ro_core.Tie as tie
 
 has-reader-requires : tie.Need-has-reader-requires
 has-reader-requires c κs = search needs

@@ -1,8 +1,7 @@
--- What a scan decides by value, and what its public call leaves. 01 "Who sees a row".
--- In order: Showed, a refusal, a scan of a partition, the two readers, the bytes written.
--- Laws: proofs/Laws/Scan.antt.
+-- What a scan decides by value. 01 "Who sees a row".
+-- In order: a refusal, a scan of a partition, the two readers, the bytes written. Laws: proofs/Laws/Scan.antt, and
+-- store/proofs/Laws/Scan.antt.
 -- Assumes nothing.
-use mathlib.Core.Path.{_≡_}
 use mathlib.Core.Bool.{Bool, _&&_, cond}
 use mathlib.Core.List.{List, _++_}
 use Prim.Native.Nat.{ℕ}
@@ -11,9 +10,6 @@ use lib.Dec.{ltb, leb}
 use Rattle.lists.specs.Lists.{firstOf}
 use Rattle.rules.specs.Manager.{opens, noRw, writersOf, hasOpen, hasReader, epochAt}
 use Rattle.rules.specs.Bitmap.{bytesFor}
-use Rattle.rules.specs.Store.{Store}
-use Rattle.rules.specs.Step.{Outcome}
-use Rattle.rules.specs.declared.Answer.{Answer}
 use Rattle.rules.specs.declared.Answer.the-variants.{Scanned, Refused}
 use Rattle.rules.specs.declared.Refusal.{Refusal}
 use Rattle.rules.specs.declared.Refusal.the-variants.{ShortBitmap}
@@ -27,11 +23,7 @@ use Rattle.visible.specs.View.{pageView}
 use Rattle.visible.specs.Scan.{scanned, bitmapScanned}
 use Rattle.compact.specs.Areas.{areaAt}
 use Rattle.admit.specs.Admit.{admitted, byAdmission}
-use Rattle.store.specs.declared.scan.Look.{Look}
-
--- a scan answers what step says and leaves these bytes; the store st that it read is step's at the end too
-abbrev pub Showed : Outcome → Answer → List ℕ → Store → Type 0
-Showed out r bytes st = (r ≡ out .answer) × (bytes ≡ out .bitmap) × (st ≡ out .store)
+use Rattle.plan_scan.specs.declared.Look.{Look}
 
 -- the bytes of a partition's rows, all 0
 abbrev pub noBits : List ℕ

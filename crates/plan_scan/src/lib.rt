@@ -1,6 +1,6 @@
 // Scans (01 "Who sees a row"), decided by value: what is refused, and the bytes that a call writes.
 ghost use mathlib.Core.Path.{_≡_};
-ghost use Rattle.store.specs.Scan.{refusedLook, lookAt, rwLook, roLook, copied};
+ghost use Rattle.plan_scan.specs.Scan.{refusedLook, lookAt, rwLook, roLook, copied};
 
 use admit::Admitted;
 use admit::admit;
