@@ -1,6 +1,9 @@
 pub mod Again
+pub mod Batched
 pub mod Calls
 pub mod Change
+pub mod Core
+pub mod Frame
 pub mod Lend
 pub mod Lists
 pub mod Loans
@@ -8,9 +11,9 @@ pub mod Locals
 pub mod Look0
 pub mod Look1
 pub mod Picks
-pub mod Rewrite1
-pub mod Rewrite2
 pub mod Saved
 pub mod Saves
 pub mod Scan
+pub mod Shape
 pub mod Shown
+pub mod Tail

@@ -1,22 +1,19 @@
--- `store::purge` meets its contract: it has the shape that lent's `Rewrite1.antt` walks.
+-- `store::purge` meets its contract: it has the shape that lent's `Change.antt` walks.
 -- Assumes nothing.
-use mathlib.Core.List.{List}
-use Prim.Native.Nat.{ℕ}
+use mathlib.Core.Bool.{false}
 use contract.Running.{givenOf, tables, tablesOf}
 use denote.Triple.Spec.{tripleOf}
 use denote.Triple.Table.{entered, cited}
 use Rattle.rules.specs.Step.{step, purge as purge-call}
-use Rattle.rules.specs.declared.Entry.{Entry}
-use Rattle.rules.specs.declared.State.{State}
 use Rattle.rewrite.specs.Copied.{rowsCopied}
 use Rattle.plan_purge.specs.Purge.{purgePlan, placeOf, newOf}
 use Rattle.plan_purge.specs.declared.Purge.{Purge}
 use Rattle.store.specs.Kept.{storeOf, Left}
 use Rattle.store.specs.Done.{donePurge}
-use Rattle.store.specs.declared.Kept.{Kept}
 use Rattle.lent.specs.Shapes.{saved}
 use Rattle.lent.proofs.Shown.{LoadAll}
-use Rattle.lent.proofs.Rewrite1.{Core, Put, Wrote as WroteRows, Fin, meets}
+use Rattle.lent.proofs.Shape.{Shape, Core, Put, Wrote, Fin}
+use Rattle.lent.proofs.Change.{meets}
 use Rattle.lent.proofs.load_all.Symbol as load-all
 use Rattle.lent.proofs.load_all.Met as load-all-thm
 use Rattle.plan_purge.proofs.Types.{purge}
@@ -36,30 +33,31 @@ use Rattle.store.proofs.purge as f
 use Rattle.store.proofs.purge.Statement as stated
 use Rattle.store.proofs.purge.Code as code
 
-abbrev entriesBy : List Entry → Purge → List Entry
-entriesBy es w = saved placeOf newOf es w 64
-
-abbrev rowsBy : List ℕ → Purge → List ℕ
-rowsBy rs w = rowsCopied (w .old) (w .plan) (w .from) (w .to) rs
-
-abbrev Ends : State → List Entry → List ℕ → ℕ → Kept → List Entry → List ℕ → Type 0
-Ends s es rs p r es′ rs′ = Left (step (purge-call p) (storeOf s rs es)) r rs′ es′
+abbrev shape : Shape
+shape = record {
+  plan = purge; answer = kept; batch = false; count = 1;
+  core = core.name; put = put.name; wr = wr.name; fin = fin.name;
+  planOf = purgePlan;
+  entriesBy = λ es w. saved placeOf newOf es w 64;
+  rowsBy = λ rs w. rowsCopied (w .old) (w .plan) (w .from) (w .to) rs;
+  answerOf = donePurge;
+  Ends = λ s es rs p r es′ rs′. Left (step (purge-call p) (storeOf s rs es)) r rs′ es′;
+  ends = λ s g es rs κs t. purge-left s (state-8 s _ g) es rs (t .0);
+}
 
 pub purge-spec : {M : Type 1} → stated.statement M
 unfolding code.routine tablesOf
 purge-spec 𝓤 H 𝓜 𝓖 𝓡 =
     entered 𝓤 H (tripleOf 𝓤 H (𝓖 .A) f.signature (f.spec 𝓤 H (𝓖 .A) (𝓜 .mem) (𝓡 .run)))
     (tables 𝓤 H 𝓜 𝓡 code.env .C) (tables 𝓤 H 𝓜 𝓡 code.env .Λ) #store·purge code.function (code.unfolded 𝓤 H 𝓜 𝓡)
-    (meets purge kept core.name put.name wr.name fin.name purgePlan entriesBy rowsBy donePurge Ends
-      (λ s g es rs p. purge-left s (state-8 s _ g) es rs p)
-    𝓤 H (𝓖 .A) (givenOf 𝓤 H 𝓜 𝓖) (𝓜 .mem) (𝓡 .run) (tablesOf 𝓤 H 𝓜 (tables 𝓤 H 𝓜 𝓡 code.env))
+    (meets shape 𝓤 H (𝓖 .A) (givenOf 𝓤 H 𝓜 𝓖) (𝓜 .mem) (𝓡 .run) (tablesOf 𝓤 H 𝓜 (tables 𝓤 H 𝓜 𝓡 code.env))
     (cited 𝓤 H (LoadAll 𝓤 H (𝓖 .A) (𝓜 .mem) (𝓡 .run)) 𝓜 𝓡 code.env load-all.name load-all.routine
       code.calls-lent·load-all (load-all-thm.met 𝓤 H 𝓜 𝓖 𝓡))
-    (cited 𝓤 H (Core purge kept purgePlan entriesBy rowsBy donePurge Ends 𝓤 H (𝓖 .A)) 𝓜 𝓡 code.env core.name
-      core.routine code.calls-plan-purge·purge-core (core-thm.met 𝓤 H 𝓜 𝓖 𝓡))
-    (cited 𝓤 H (Put purge kept purgePlan entriesBy rowsBy donePurge Ends 𝓤 H (𝓖 .A)) 𝓜 𝓡 code.env put.name
-      put.routine code.calls-plan-purge·put-purge (put-thm.met 𝓤 H 𝓜 𝓖 𝓡))
-    (cited 𝓤 H (WroteRows purge kept purgePlan entriesBy rowsBy donePurge Ends 𝓤 H (𝓖 .A)) 𝓜 𝓡 code.env wr.name
-      wr.routine code.calls-plan-purge·purge-rows (wr-thm.met 𝓤 H 𝓜 𝓖 𝓡))
-    (cited 𝓤 H (Fin purge kept purgePlan entriesBy rowsBy donePurge Ends 𝓤 H (𝓖 .A)) 𝓜 𝓡 code.env fin.name
-      fin.routine code.calls-store·done·purge-done (fin-thm.met 𝓤 H 𝓜 𝓖 𝓡)))
+    (cited 𝓤 H (Core shape 𝓤 H (𝓖 .A)) 𝓜 𝓡 code.env core.name core.routine code.calls-plan-purge·purge-core
+      (core-thm.met 𝓤 H 𝓜 𝓖 𝓡))
+    (cited 𝓤 H (Put shape 𝓤 H (𝓖 .A)) 𝓜 𝓡 code.env put.name put.routine code.calls-plan-purge·put-purge
+      (put-thm.met 𝓤 H 𝓜 𝓖 𝓡))
+    (cited 𝓤 H (Wrote shape 𝓤 H (𝓖 .A)) 𝓜 𝓡 code.env wr.name wr.routine code.calls-plan-purge·purge-rows
+      (wr-thm.met 𝓤 H 𝓜 𝓖 𝓡))
+    (cited 𝓤 H (Fin shape 𝓤 H (𝓖 .A)) 𝓜 𝓡 code.env fin.name fin.routine code.calls-store·done·purge-done
+      (fin-thm.met 𝓤 H 𝓜 𝓖 𝓡)))
