@@ -1,5 +1,4 @@
--- What the calls of this crate mean for a partition: its spans rolled back, or purged. Definitions: rules'
--- Rewrite.
+-- What a plan carried out means for a partition: its spans rolled back, or purged. Definitions: rules' Rewrite.
 -- In order: the ends; a plan that keeps what rules keep; the entries of an area; tests, roll back, purge and
 -- the rows copied, for an area whose entries have so many rows.
 -- Assumes nothing.

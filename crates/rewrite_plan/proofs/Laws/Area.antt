@@ -1,4 +1,4 @@
--- The entries of an area that are in use, one by one. Definitions: specs/Bare.antt.
+-- The entries of an area that are in use, one by one. Definitions: visible's specs/Bare.antt.
 -- In order: Uses, where the entries in use are the first n; the entry at an index, and those after it; the
 -- end.
 -- Assumes nothing.

@@ -8,7 +8,6 @@ use denote.Triple.Table.{entered, cited}
 use Rattle.rules.specs.Step.{step, append as append-call}
 use Rattle.partition.specs.Rows.{putRows}
 use Rattle.plan_write.specs.Write.{appendWrite}
-use Rattle.plan_write.specs.declared.Write.{Write}
 use Rattle.store.specs.Kept.{storeOf, Left}
 use Rattle.store.specs.Done.{doneWrite}
 use Rattle.lent.proofs.Shown.{LoadAll}

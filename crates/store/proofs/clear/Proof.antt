@@ -7,7 +7,6 @@ use denote.Triple.Spec.{tripleOf}
 use denote.Triple.Table.{entered, cited}
 use Rattle.rules.specs.Step.{step, clear as clear-call}
 use Rattle.plan_write.specs.Write.{clearWrite}
-use Rattle.plan_write.specs.declared.Write.{Write}
 use Rattle.store.specs.Kept.{storeOf, Left}
 use Rattle.store.specs.Done.{doneWrite}
 use Rattle.lent.proofs.Shown.{LoadAll}

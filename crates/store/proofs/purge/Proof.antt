@@ -7,7 +7,6 @@ use denote.Triple.Table.{entered, cited}
 use Rattle.rules.specs.Step.{step, purge as purge-call}
 use Rattle.rewrite.specs.Copied.{rowsCopied}
 use Rattle.plan_purge.specs.Purge.{purgePlan, placeOf, newOf}
-use Rattle.plan_purge.specs.declared.Purge.{Purge}
 use Rattle.store.specs.Kept.{storeOf, Left}
 use Rattle.store.specs.Done.{donePurge}
 use Rattle.lent.specs.Shapes.{saved}

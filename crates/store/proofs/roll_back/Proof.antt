@@ -6,7 +6,6 @@ use denote.Triple.Spec.{tripleOf}
 use denote.Triple.Table.{entered, cited}
 use Rattle.rules.specs.Step.{step, rollback}
 use Rattle.plan_rollback.specs.RollBack.{rollBackOf, placeOf, entriesAfter, rowsAfter}
-use Rattle.plan_rollback.specs.declared.RollBack.{RollBack}
 use Rattle.store.specs.Kept.{storeOf, Left}
 use Rattle.store.specs.Done.{doneRollBack}
 use Rattle.lent.specs.Shapes.{saved}
