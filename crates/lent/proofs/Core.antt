@@ -1,6 +1,7 @@
 -- The core of a public function of the store: it gets books, the table of the entries, their number and the rows', and
 -- numbers, all by value, and its result is a function of them.
---     Coring, coreClauses, Core    its contract.        coreArgs, coreVals, has-core    what a caller passes
+--     Coring, coreClauses, CoreOf      its contract.        coreArgs, coreVals, has-core     what a caller passes
+--     has-plan                     what a caller passes of a plan
 --     books, table, held           the machine values of books, of a table and of a lent slice
 -- Assumes nothing but where a `Given` is asked.
 use mathlib.Core.Path.{_≡_, refl}
@@ -14,7 +15,7 @@ use base.Logic.{ent, sep, emp}
 use prog.Wp.{Heap}
 use ghost.Atoms.{Atoms, sem}
 use contract.Monad.{fact}
-use types.Kit.{Given, ‵, _$_, _∵_, !, qed, use0, done}
+use types.Kit.{Given, ‵, _$_, _∵_, !, qed, use0, fjoin, done}
 use denote.RattleType.{RattleType, owns, Denots, Valss}
 use denote.Laws.{Is, Ises, owns-make}
 use denote.Plain.{uint-makes}
@@ -22,7 +23,7 @@ use denote.Builtin.{usize}
 use denote.Exit.{yes}
 use denote.Slice.{sliceVal}
 use denote.Signature.{Slot, plain, typesAt}
-use denote.Steps.{nothing}
+use denote.Steps.{owned, nothing}
 use denote.Struct.Laws as LL
 use denote.Triple.Statement.{Contract}
 use denote.Triple.Clauses.{Ended, Clauses}
@@ -35,6 +36,7 @@ use Rattle.lent.proofs.Table.Laws as B′
 use Rattle.lent.proofs.Tail.{numbers, keeps, Of, applied, Nums, spelt, Fits, makes}
 use Rattle.lent.proofs.Lend.{Lent, Met}
 use Rattle.lent.proofs.Calls.{Plainly}
+use Rattle.lent.proofs.Shown.{Shown}
 
 abbrev pub books : State → Val
 books = LL.val K.the-type K′.the-laws
@@ -74,3 +76,10 @@ module _ (n : ℕ) (s : State) (tab : Table) (i j : ℕ) (ms : Nums 0 tt n) wher
       K.the-type K′.the-plain 𝓤 H A, (LL.makes B.the-type B′.the-plain 𝓤 H A, (uint-makes 𝓤 H A W w64, (uint-makes 𝓤 H A
           W
       w64, makes 𝓤 H A W n)))) coreArgs coreVals (gs, (gt, ((refl, gi), ((refl, gj), gn))))) $ done !
+
+-- a plan, as the one plain parameter
+pub has-plan : (P : Shown) {M : Type 1} (𝓤 : URA M) (H : Heap 𝓤) (A : Atoms 𝓤) (W : Given 𝓤 H A) (p : P .row .Denot) →
+    Is (P .row) p (P .val p ∷ []) → ent 𝓤 (emp 𝓤) (sep 𝓤 (sem 𝓤 H A (owns (P .row ∷ []) (p, tt) (P .val p ∷ [], tt)))
+    (emp 𝓤))
+has-plan P 𝓤 H A W p g = qed W [] ∵ nothing ! $ nothing ! $ owned ! (P .row) (Is (P .row)) (P .makes 𝓤 H A W) p _ g $
+    fjoin ! $ done !

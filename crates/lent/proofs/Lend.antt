@@ -36,7 +36,7 @@ use denote.Laws.{Is, shows, Tells}
 use denote.Memory.{mem, partAt, shares as all-shares}
 use denote.Ref.{RefT}
 use denote.Shadow.{pureI}
-use denote.Slice.{sliceTy, sliceVal, Room, finally, at-slice, heres, codedHoleys, shr-slice-copy}
+use denote.Slice.{sliceTy, sliceVal, MutSlice, ShrSlice, Room, finally, at-slice, heres, codedHoleys, shr-slice-copy}
 use denote.Lend.{Held, lends-slice, slice-back, lends-shr-slice}
 use denote.Index.{row, whole-in, whole-out, opens-slice, closes-slice}
 use denote.Array.{Array}
@@ -50,7 +50,20 @@ use denote.Triple.Clauses.{Ended, Clauses, Lasts, lasts, atExit, closing}
 use denote.Triple.Spec.{tripleOf}
 use Rattle.lent.proofs.Again.{LentAgain, lends-again, comes-back}
 use Rattle.lent.proofs.Locals.{block, Spots, spot}
-use Rattle.lent.proofs.Calls.{on-list, slice-val, shared, unique}
+
+-- a slice under the name δ at the list l, and its machine value
+abbrev pub on-list : (R : RattleType) → ℕ → ℕ → GName → List (R .Denot) → RefT (List (R .Denot))
+on-list R b o δ l = record { ptr = (b, o); name = δ; now = l }
+
+abbrev pub slice-val : (R : RattleType) → ℕ → ℕ → List (R .Denot) → List Val
+slice-val R b o ys = sliceVal (b, o) (length ys) ∷ []
+
+abbrev pub shared : (R : RattleType) → Lft → ℕ → ℕ → GName → List (R .Denot) → Fml
+shared R κ b o γ ys = ShrSlice (named 0) κ R .own (on-list R b o γ ys) (slice-val R b o ys)
+
+-- the slice at the list l, where its length is that of ys
+abbrev pub unique : Lifetime → (R : RattleType) → Lft → ℕ → ℕ → GName → List (R .Denot) → List (R .Denot) → Fml
+unique ℓ R κ b o γ ys l = MutSlice ℓ κ R .own (on-list R b o γ l) (slice-val R b o ys)
 
 pub record Lent (R : RattleType) : Type 0 where
   pub lft : Lft

@@ -8,8 +8,7 @@ pub mod Lend
 pub mod Lists
 pub mod Loans
 pub mod Locals
-pub mod Look0
-pub mod Look1
+pub mod Look
 pub mod Picks
 pub mod Saved
 pub mod Saves

@@ -64,7 +64,8 @@ use Rattle.lent.specs.Entries.{none}
 use Rattle.rules.proofs.Entry as T
 use Rattle.rules.proofs.Entry.Laws as T′
 use Rattle.lent.specs.Shapes.{saved}
-use Rattle.lent.proofs.Calls.{plain-call, mut-call, Plainly, Writes, unique}
+use Rattle.lent.proofs.Calls.{plain-call, mut-call, Plainly, Writes}
+use Rattle.lent.proofs.Lend.{unique}
 use Rattle.lent.proofs.Shown.{Shown}
 use Rattle.lent.proofs.Picks.{holds, less-self}
 use Rattle.lent.proofs.Saved.{saved-length}
@@ -138,7 +139,7 @@ PutEntry 𝓤 H A at-mem run = tripleOf 𝓤 H A put-entry.signature (put-entry.
 
 module _ (n : ℕ) (P : Shown) where
   abbrev pub ended : Ended
-  ended = Writes T.the-row unit (plain (λ _. P .row) ∷ []) (yes, tt)
+  ended = Writes T.the-row 0 (plain (λ _. P .row) ∷ []) (yes, tt)
 
   abbrev placeEnded : Ended
   placeEnded = Plainly usize (plain (λ _. P .row) ∷ plain (λ _. usize) ∷ []) (yes, (yes, tt))
@@ -246,10 +247,9 @@ module _ (n : ℕ) (P : Shown) where
             T.the-type T′.the-plain) 𝓤 H A) y _ ge $ fjoin ! $ owned ! usize (Is usize) (uint-makes 𝓤 H A W w64) j
             _ gj $ fjoin ! $ done !
 
-        told : (r : Unit {0}) (i : ℕ) (z : List Entry) → ent 𝓤 (fact 𝓤 (z ≡ set (cur i) (Pl p i) (e i))) (fact 𝓤
-            ((r ≡ tt) × (z ≡ cur (suc i))))
-        told r i z = fact-use 𝓤 (z ≡ set (cur i) (Pl p i) (e i)) (id⊢ 𝓤 _) (λ e. factI 𝓤 ((r ≡ tt) × (z ≡ cur (suc
-            i))) _ (refl, e ∙ next-is i))
+        told : (i : ℕ) (z : List Entry) → ent 𝓤 (fact 𝓤 (z ≡ set (cur i) (Pl p i) (e i))) (fact 𝓤 (z ≡ cur (suc i)))
+        told i z = fact-use 𝓤 (z ≡ set (cur i) (Pl p i) (e i)) (id⊢ 𝓤 _) (λ e. factI 𝓤 (z ≡ cur (suc i)) _ (e ∙
+            next-is i))
 
         module _ (l₀ l₁ l₂ l₃ l₄ l₅ l₆ l₇ l₈ l₉ l₁₀ l₁₁ l₁₂ l₁₃ l₁₄ l₁₅ : ℕ) where
           abbrev En : Env 𝓤 H
@@ -325,13 +325,13 @@ module _ (n : ℕ) (P : Shown) where
               rewrite ! 1 (λ (m : ℕ). ‵ (MutSlice (named 0) κ T.the-row .own (record { ptr = (b, o); name = γ; now
                   = cur i }) (sliceVal (b, o) m ∷ []))) (sym len) refl $ rewrite ! 4 (λ (m : ℕ). ‵ (fat fullShare
                   Again l₁₅ 0 (sliceVal (b, o) m))) (sym len) refl $
-              mut-call fm T.the-row unit (plain (λ _. usize) ∷ plain (λ _. T.the-row) ∷ []) (yes, (yes, tt))
-                  (put-entry.clauses 𝓤 H A at-mem run) known-put (named 0) κ q b o γ (cur i) (λ _. (Pl p i, (e i,
-                  tt))) (λ _. (vint w64 (Pl p i) ∷ [], (LL.vals T.the-type T′.the-laws (e i), tt))) (λ _ _. tt)
-                  (subst (Room T.the-row) (sym len) room) (λ _ _. has-put (Pl p i) (e i) gj ge) tt (cur (suc i)) (λ
-                  _ _ r ws. told r i (ws .0)) (λ _. vunit) (λ _ _ e. e)
+              mut-call fm T.the-row (plain (λ _. usize) ∷ plain (λ _. T.the-row) ∷ []) (yes, (yes, tt))
+                  (put-entry.clauses 𝓤 H A at-mem run) known-put (named 0) (record { lft = κ; share = q; block = b;
+                  start = o; name = γ; list = cur i }) (λ _. (Pl p i, (e i, tt))) (λ _. (vint w64 (Pl p i) ∷ [],
+                  (LL.vals T.the-type T′.the-laws (e i), tt))) (λ _ _. tt) (subst (Room T.the-row) (sym len) room) (λ
+                  _ _. has-put (Pl p i) (e i) gj ge) (cur (suc i)) (λ _ _ r ws. told i (ws .0))
               (λ _ _ _ _. and-then ! (load ! (from ! (stop !)) (look ! 4 refl)) (and-then ! (load ! (from ! (stop
-                  !)) (look ! 24 refl)) (and-then ! (load ! (from ! (stop !)) (look ! 22 refl)) (no-more !)))) (λ _
+                  !)) (look ! 24 refl)) (and-then ! (load ! (from ! (stop !)) (look ! 22 refl)) (no-more !)))) (λ
                   _. land ! (from ! (stop !)) (init ! 8 refl (tt, tt)) $
               rewrite ! 1 (λ (m : ℕ). ‵ (MutSlice (named 0) κ T.the-row .own (record { ptr = (b, o); name = γ; now
                   = cur (suc i) }) (sliceVal (b, o) m ∷ []))) len refl $

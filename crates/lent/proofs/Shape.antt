@@ -19,11 +19,13 @@ use prog.Wp.{Heap}
 use ghost.Atoms.{Atoms}
 use contract.Monad.{fact}
 use contract.Lifetimes.{Lfts}
+use denote.RattleType.{Denots}
 use denote.Laws.{Is}
-use denote.Builtin.{u64, unit}
+use denote.Builtin.{u64}
 use denote.Memory.{pointee}
 use denote.Slice.{sliceTy}
-use denote.Signature.{Slot, plain, mutSliceOf}
+use denote.Signature.{Slot, plain, mutSliceOf, shrSliceOf, typesAt}
+use denote.Triple.End.{Kepts}
 use denote.Triple.Statement.{Contract}
 use denote.Triple.Clauses.{Ended, Clauses}
 use denote.Exit.{yes}
@@ -40,7 +42,7 @@ use Rattle.lent.proofs.Frame.{asLocals, past}
 use Rattle.lent.proofs.Tail.{more, lives, counted, tail, tailKept, tailTys, Tail, Of, applied, With, batched}
 use Rattle.lent.proofs.Tail.{told, measured, copies}
 use Rattle.lent.proofs.Lend.{reborrow, Met}
-use Rattle.lent.proofs.Calls.{Plainly, Writes, WritesFrom}
+use Rattle.lent.proofs.Calls.{Plainly, Writes}
 use Rattle.lent.proofs.Core.{books, CoreOf}
 use Rattle.lent.proofs.Shown.{Shown}
 use Rattle.lent.proofs.load_all.Symbol.{name as #lent·load-all}
@@ -106,21 +108,28 @@ abbrev pub onward : Bool → ℕ → List Operand
 onward true n = copy (place (temp true n 8) []) ∷ copy (place 4 []) ∷ copy (place (temp true n 1) []) ∷ []
 onward false n = copy (place (temp false n 8) []) ∷ copy (place (temp false n 1) []) ∷ []
 
--- what a callee gets of the plan, and the writer's contract
+-- what the callees get of the plan: the writer gets the batch before it
 module _ (P : Shown) where
   abbrev pub planSlot : {k : ℕ} → List (Slot k)
   planSlot = plain (λ _. P .row) ∷ []
 
-  abbrev pub Wroting : Bool → Ended
-  Wroting true = WritesFrom u64 u64 unit planSlot (yes, tt)
-  Wroting false = Writes u64 unit planSlot (yes, tt)
+  abbrev pub sources : (b : Bool) → List (Slot (suc (more b)))
+  sources true = shrSliceOf (1 ∷ []) tt (plain (λ _. u64)) ∷ planSlot
+  sources false = planSlot
+
+  abbrev pub sourcesKept : (b : Bool) → Kepts (sources b)
+  sourcesKept true = (yes, (yes, tt))
+  sourcesKept false = (yes, tt)
+
+  abbrev pub writtenBy : (b : Bool) (κs : Lfts (suc (more b))) → With b (P .row .Denot → List ℕ) → Denots (typesAt
+      (sources b) κs) → List ℕ
+  writtenBy true κs f a = f (a .0 .now) (a .1 .0)
+  writtenBy false κs f a = f (a .0)
 
   abbrev pub wrClauses : {M : Type 1} (𝓤 : URA M) (b : Bool) → (List ℕ → With b (P .row .Denot → List ℕ)) → Clauses 𝓤
-      (Wroting b)
-  wrClauses 𝓤 true Rw κs a = record { ghost = Unit {0}; requires = λ _. emp 𝓤; ensures = λ _ r e. fact 𝓤 (e .0 .now ≡ Rw
-      (a .0 .now) (a .1 .0 .now) (a .1 .1 .0)) }
-  wrClauses 𝓤 false Rw κs a = record { ghost = Unit {0}; requires = λ _. emp 𝓤; ensures = λ _ r e. fact 𝓤 (e .0 .now ≡
-      Rw (a .0 .now) (a .1 .0)) }
+      (Writes u64 (more b) (sources b) (sourcesKept b))
+  wrClauses 𝓤 b Rw κs a = record { ghost = Unit {0}; requires = λ _. emp 𝓤; ensures = λ _ r e. fact 𝓤 (e .0 .now ≡
+      writtenBy b κs (Rw (a .0 .now)) (a .1)) }
 
 module _ (sh : Shape) where
   abbrev b : Bool
@@ -160,7 +169,7 @@ module _ (sh : Shape) where
     clauses κs a = record { ghost = Unit {0}; requires = λ _. emp 𝓤; ensures = λ _ r e. fact 𝓤 (told b n κs (sh .Ends (a
         .0) (a .1 .0 .now) (a .1 .1 .0 .now)) (a .1 .1 .1) r (e .1 .0 .now) (e .1 .1 .0 .now)) }
 
-    abbrev pub putClauses : Clauses 𝓤 (Writes T.the-row unit (planSlot (sh .plan)) (yes, tt))
+    abbrev pub putClauses : Clauses 𝓤 (Writes T.the-row 0 (planSlot (sh .plan)) (yes, tt))
     putClauses κs a = record { ghost = Unit {0}; requires = λ _. emp 𝓤; ensures = λ _ r e. fact 𝓤 (e .0 .now ≡ sh
         .entriesBy (a .0 .now) (a .1 .0)) }
 
@@ -173,10 +182,11 @@ module _ (sh : Shape) where
       Core = CoreOf (sh .plan .row) (counted b n) (sh .planOf) 𝓤 H A
 
       abbrev pub Put : Contract 𝓤
-      Put = Met 𝓤 H A (Writes T.the-row unit (planSlot (sh .plan)) (yes, tt)) putClauses
+      Put = Met 𝓤 H A (Writes T.the-row 0 (planSlot (sh .plan)) (yes, tt)) putClauses
 
       abbrev pub Wrote : Contract 𝓤
-      Wrote = Met 𝓤 H A (Wroting (sh .plan) b) (wrClauses (sh .plan) 𝓤 b (sh .rowsBy))
+      Wrote = Met 𝓤 H A (Writes u64 (more b) (sources (sh .plan) b) (sourcesKept (sh .plan) b)) (wrClauses (sh .plan) 𝓤
+          b (sh .rowsBy))
 
       abbrev pub Fin : Contract 𝓤
       Fin = Met 𝓤 H A (Plainly (sh .answer .row) (planSlot (sh .plan)) (yes, tt)) finClauses

@@ -49,7 +49,8 @@ use denote.Exit.{yes}
 use Rattle.rules.specs.declared.Entry.{Entry}
 use Rattle.rules.proofs.Entry as T
 use Rattle.rules.proofs.Entry.Laws as T′
-use Rattle.lent.proofs.Calls.{plain-call, mut-call, Plainly, Writes, unique}
+use Rattle.lent.proofs.Calls.{plain-call, mut-call, Plainly, Writes}
+use Rattle.lent.proofs.Lend.{unique}
 use Rattle.lent.proofs.Shown.{Shown}
 use Rattle.lent.proofs.put_entry as put-entry
 use Rattle.lent.proofs.put_entry.Symbol.{name as #lent·put-entry}
@@ -77,7 +78,7 @@ PutEntry 𝓤 H A at-mem run = tripleOf 𝓤 H A put-entry.signature (put-entry.
 
 module _ (P : Shown) where
   abbrev pub ended : Ended
-  ended = Writes T.the-row unit (plain (λ _. P .row) ∷ []) (yes, tt)
+  ended = Writes T.the-row 0 (plain (λ _. P .row) ∷ []) (yes, tt)
 
   abbrev indexEnded : Ended
   indexEnded = Plainly usize (plain (λ _. P .row) ∷ []) (yes, tt)
@@ -155,9 +156,6 @@ module _ (P : Shown) where
             T.the-type T′.the-plain) 𝓤 H A) y _ ge $ fjoin ! $ owned ! usize (Is usize) (uint-makes 𝓤 H A W w64) j
             _ gj $ fjoin ! $ done !
 
-        told : (r : Unit {0}) (l : List Entry) → ent 𝓤 (fact 𝓤 (l ≡ es′)) (fact 𝓤 ((r ≡ tt) × (l ≡ es′)))
-        told r l = fact-use 𝓤 (l ≡ es′) (id⊢ 𝓤 _) (λ e. factI 𝓤 ((r ≡ tt) × (l ≡ es′)) _ (refl, e))
-
         walk : ent 𝓤 (onEntry 𝓤 H A (ended .signature) (κ, tt) (q, tt) x at)
             (WpFn 𝓤 H (𝓣 .C) (𝓣 .Λ) code (sliceVal (b, o) (length es) ∷ P .val p ∷ []) Post)
         walk =
@@ -184,12 +182,12 @@ module _ (P : Shown) where
             assigns ! (agg ! (and-then ! (load ! (from ! (stop !)) (look ! 5 refl)) (and-then ! (load ! (from ! (fld
                 ! refl (stop !))) (look-in ! 15 (sub ! 1 refl (whole !)))) (no-more !)))) (from ! (stop !)) (init !
                 3 refl (tt, (tt, (record { fits = room .0 }, tt)))) $
-            mut-call fm T.the-row unit (plain (λ _. usize) ∷ plain (λ _. T.the-row) ∷ []) (yes, (yes, tt))
-                (put-entry.clauses 𝓤 H A at-mem run) known-put (named 0) κ q b o γ es (λ _. (Ix p, (En p, tt))) (λ
-                _. (vint w64 (Ix p) ∷ [], (LL.vals T.the-type T′.the-laws (En p), tt))) (λ _ _. tt) room
-                (λ _ _. has-put (Ix p) (En p) gi ge) tt es′ (λ _ _ r ws. told r (ws .0)) (λ _. vunit) (λ _ _ e. e)
+            mut-call fm T.the-row (plain (λ _. usize) ∷ plain (λ _. T.the-row) ∷ []) (yes, (yes, tt)) (put-entry.clauses
+                𝓤 H A at-mem run) known-put (named 0) (record { lft = κ; share = q; block = b; start = o; name = γ; list
+                = es }) (λ _. (Ix p, (En p, tt))) (λ _. (vint w64 (Ix p) ∷ [], (LL.vals T.the-type T′.the-laws (En p),
+                tt))) (λ _ _. tt) room (λ _ _. has-put (Ix p) (En p) gi ge) es′ (λ _ _ r ws. id⊢ 𝓤 _)
             (λ _ _ _ _. and-then ! (load ! (from ! (stop !)) (look ! 3 refl)) (and-then ! (load ! (from ! (stop !))
-                (look ! 11 refl)) (and-then ! (load ! (from ! (stop !)) (look ! 9 refl)) (no-more !)))) (λ len _.
+                (look ! 11 refl)) (and-then ! (load ! (from ! (stop !)) (look ! 9 refl)) (no-more !)))) (λ len.
             land ! (from ! (stop !)) (init ! 7 refl (tt, tt)) $
             assigns ! (of-opd ! (unit-lit !)) (from ! (stop !)) (init ! 17 refl (tt, tt)) $
             returns ! (look ! 17 refl) $ forget ! 3 refl $ forget ! 5 refl $ forget ! 7 refl $ forget ! 9 refl $

@@ -32,16 +32,14 @@ use Rattle.store.proofs.append.Statement as stated
 use Rattle.store.proofs.append.Code as code
 
 abbrev shape : Shape
-shape = record {
-  plan = write; answer = kept; batch = true; count = 2;
+shape = record { plan = write; answer = kept; batch = true; count = 2;
   core = core.name; put = put.name; wr = wr.name; fin = fin.name;
   planOf = appendWrite;
   entriesBy = λ es w. set es (w .at) (w .entry);
   rowsBy = λ rs bs w. putRows (w .row) bs rs;
   answerOf = doneWrite;
   Ends = λ s es rs bs i p r es′ rs′. Left (step (append-call i p bs) (storeOf s rs es)) r rs′ es′;
-  ends = λ s g es rs κs t. append-left s (state-8 s _ g) es rs (t .0 .now) (t .1 .0) (t .1 .1 .0);
-}
+  ends = λ s g es rs κs t. append-left s (state-8 s _ g) es rs (t .0 .now) (t .1 .0) (t .1 .1 .0) }
 
 pub append-spec : {M : Type 1} → stated.statement M
 unfolding code.routine tablesOf

@@ -31,16 +31,14 @@ use Rattle.store.proofs.clear.Statement as stated
 use Rattle.store.proofs.clear.Code as code
 
 abbrev shape : Shape
-shape = record {
-  plan = write; answer = kept; batch = false; count = 2;
+shape = record { plan = write; answer = kept; batch = false; count = 2;
   core = core.name; put = put.name; wr = wr.name; fin = fin.name;
   planOf = clearWrite;
   entriesBy = λ es w. set es (w .at) (w .entry);
   rowsBy = λ rs w. rs;
   answerOf = doneWrite;
   Ends = λ s es rs i p r es′ rs′. Left (step (clear-call i p) (storeOf s rs es)) r rs′ es′;
-  ends = λ s g es rs κs t. clear-left s (state-8 s _ g) es rs (t .0) (t .1 .0);
-}
+  ends = λ s g es rs κs t. clear-left s (state-8 s _ g) es rs (t .0) (t .1 .0) }
 
 pub clear-spec : {M : Type 1} → stated.statement M
 unfolding code.routine tablesOf

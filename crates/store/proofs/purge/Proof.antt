@@ -33,16 +33,14 @@ use Rattle.store.proofs.purge.Statement as stated
 use Rattle.store.proofs.purge.Code as code
 
 abbrev shape : Shape
-shape = record {
-  plan = purge; answer = kept; batch = false; count = 1;
+shape = record { plan = purge; answer = kept; batch = false; count = 1;
   core = core.name; put = put.name; wr = wr.name; fin = fin.name;
   planOf = purgePlan;
   entriesBy = λ es w. saved placeOf newOf es w 64;
   rowsBy = λ rs w. rowsCopied (w .old) (w .plan) (w .from) (w .to) rs;
   answerOf = donePurge;
   Ends = λ s es rs p r es′ rs′. Left (step (purge-call p) (storeOf s rs es)) r rs′ es′;
-  ends = λ s g es rs κs t. purge-left s (state-8 s _ g) es rs (t .0);
-}
+  ends = λ s g es rs κs t. purge-left s (state-8 s _ g) es rs (t .0) }
 
 pub purge-spec : {M : Type 1} → stated.statement M
 unfolding code.routine tablesOf

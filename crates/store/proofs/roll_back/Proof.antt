@@ -32,16 +32,14 @@ use Rattle.store.proofs.roll_back.Statement as stated
 use Rattle.store.proofs.roll_back.Code as code
 
 abbrev shape : Shape
-shape = record {
-  plan = rollBack; answer = kept; batch = false; count = 1;
+shape = record { plan = rollBack; answer = kept; batch = false; count = 1;
   core = core.name; put = put.name; wr = wr.name; fin = fin.name;
   planOf = rollBackOf;
   entriesBy = λ es w. saved placeOf entriesAfter es w 576;
   rowsBy = rowsAfter;
   answerOf = doneRollBack;
   Ends = λ s es rs i r es′ rs′. Left (step (rollback i) (storeOf s rs es)) r rs′ es′;
-  ends = λ s g es rs κs t. roll-back-left s (state-8 s _ g) es rs (t .0);
-}
+  ends = λ s g es rs κs t. roll-back-left s (state-8 s _ g) es rs (t .0) }
 
 pub roll-back-spec : {M : Type 1} → stated.statement M
 unfolding code.routine tablesOf
