@@ -75,7 +75,8 @@ fn timed(store: &Store, one: &Call) -> (u64, f64, f64) {
     let number = call(one, &mut store.clone(), &mut bitmap).number;
     assert_eq!(numbers(&one.run(&mut store.clone(), &mut bitmap)).0, number);
     let by_proof = best(store, |used| {
-        black_box(call(black_box(one), used, &mut bitmap));
+        let reply = call(black_box(one), used, &mut bitmap);
+        black_box(&reply);
     });
     let by_model = best(store, |used| {
         black_box(numbers(&black_box(one).run(used, &mut bitmap)));
