@@ -45,7 +45,9 @@ use Rattle.rules.proofs.State.Laws as K′
 use Rattle.lent.proofs.Locals.{Lies, marked, has, takes, puts, Pool, taken, putBack, allIn, allOut, block, Spots}
 use Rattle.lent.proofs.Locals.{spot, takes-all, puts-all}
 use Rattle.lent.proofs.Lend.{Lent, token, mutAt, shr, valOf, reborrow, reborrows, calling, calling-last}
-use Rattle.lent.proofs.Loans.{Callee, numbers, spelled, Fit, Looks, LookSays, look-call, Writes, WriteSays}
+use Rattle.lent.proofs.Core.{books, held}
+use Rattle.lent.proofs.Tail.{numbers}
+use Rattle.lent.proofs.Loans.{Callee, spelled, Fit, Looks, LookSays, look-call, Writes, WriteSays}
 use Rattle.lent.proofs.Loans.{write-call, WritesFrom, FromSays, write-from-call, Scans, ScanSays, scan-call}
 use Rattle.store.proofs.Types.{kept, answer}
 use Rattle.store.proofs.Kept as KeptT
@@ -66,9 +68,6 @@ rowsTy = sliceTy (tyRef (named 1) mut word)
 
 abbrev pub bitmapTy : Ty
 bitmapTy = sliceTy (tyRef (named 3) mut (tyInt w8))
-
-abbrev pub books : State → Val
-books = LL.val K.the-type K′.the-laws
 
 -- the parameters, and the local that the match's value goes to
 abbrev pub fixed : List (ℕ × Ty)
@@ -113,9 +112,6 @@ Scanning = Scans K.the-row T.the-row u64 u8 (answer .row)
 abbrev pub lent-to : ℕ → Name → List Operand → Body
 lent-to a f xs = lending a (call f (copy (place 1 []) ∷ copy (place (a + 1) []) ∷ copy (place (a + 3) []) ∷ xs)
     (place 22 []))
-
-abbrev pub held : {R : RattleType} → Lent R → Val
-held x = sliceVal (x .block, x .start) (length (x .list))
 
 abbrev pub scan-to : ℕ → Name → List Operand → Body
 scan-to b f xs = lending (b + 1) (reborrow 5 (b + 5) (b + 6) (tyInt w8) (seq (call f (copy (place 1 []) ∷ copy
@@ -216,8 +212,8 @@ module _ {M : Type 1} (𝓤 : URA M) (H : Heap 𝓤) (A : Atoms 𝓤) (W : Given
           (temps imm a) m))
           → (c : Callee 𝓤 H A C f (Looking ns)) → (φ : Kept → Type 0) → LookSays K.the-row
               T.the-row u64 (kept .row) bk x₁ x₂ ns 𝓤 (c .clauses) (c .free) φ
-          → {Γ : List (Item 𝓤)} → ((κs : Lfts 2) → Reading 11 xs (flat (typesAt {n = 2} (numbers 2 ns) κs) (spelled
-              2 κs ns)) Γ)
+          → {Γ : List (Item 𝓤)} → ((κs : Lfts 2) → Reading 11 xs (flat (typesAt {n = 2} (numbers 2 (length ns)) κs)
+              (spelled 2 κs ns)) Γ)
           → ((r : Kept) → φ r → Is (kept .row) r (kept .val r ∷ []) → Sq W (Arm 𝓤 H E x₁ x₂ bk (lentOut imm a m)
               (cell 𝓤 H E (kept .mir) 22 (kept .val r)) (x₁ .list) (x₂ .list) Γ) (prop (post 𝓤 H q next)))
           → Sq W (Arm 𝓤 H E x₁ x₂ bk m (room 𝓤 H E (kept .mir) 22) (x₁ .list) (x₂ .list) Γ) (runs C Λ E (lent-to a f
@@ -237,8 +233,8 @@ module _ {M : Type 1} (𝓤 : URA M) (H : Heap 𝓤) (A : Atoms 𝓤) (W : Given
           (temps mut a) m))
           → (c : Callee 𝓤 H A C f (Writing ns)) → (φ : Kept → List Entry → List ℕ → Type 0)
               → WriteSays K.the-row T.the-row u64 (kept .row) bk x₁ x₂ ns 𝓤 (c .clauses) (c .free) φ
-          → {Γ : List (Item 𝓤)} → ((κs : Lfts 2) → Reading 11 xs (flat (typesAt {n = 2} (numbers 2 ns) κs) (spelled
-              2 κs ns)) Γ)
+          → {Γ : List (Item 𝓤)} → ((κs : Lfts 2) → Reading 11 xs (flat (typesAt {n = 2} (numbers 2 (length ns)) κs)
+              (spelled 2 κs ns)) Γ)
           → ((r : Kept) (es : List Entry) (rs : List ℕ) → length es ≡ length (x₁ .list) → length rs ≡ length (x₂
               .list) → φ r es rs → Is
               (kept .row) r (kept .val r ∷ []) → Sq W (Arm 𝓤 H E x₁ x₂ bk (lentOut mut a m) (cell 𝓤 H E
@@ -264,8 +260,8 @@ module _ {M : Type 1} (𝓤 : URA M) (H : Heap 𝓤) (A : Atoms 𝓤) (W : Given
           → (c : Callee 𝓤 H A C f (Appending ns)) → (φ : Kept →
               List Entry → List ℕ → Type 0) → FromSays K.the-row T.the-row u64 u64 (kept .row) bk x₁ x₂ x₃ ns 𝓤 (c
                   .clauses) (c .free) φ
-          → {Γ : List (Item 𝓤)} → ((κs : Lfts 3) → Reading 11 xs (valOf x₃ ++ flat (typesAt {n = 3} (numbers 3 ns)
-              κs) (spelled 3 κs ns)) Γ)
+          → {Γ : List (Item 𝓤)} → ((κs : Lfts 3) → Reading 11 xs (valOf x₃ ++ flat (typesAt {n = 3} (numbers 3 (length
+              ns)) κs) (spelled 3 κs ns)) Γ)
           → ((r : Kept) (es : List Entry) (rs : List ℕ) → length es ≡ length (x₁ .list) → length rs ≡ length (x₂
               .list) → φ r es rs → Is
               (kept .row) r (kept .val r ∷ []) → Sq W (Arm 𝓤 H E x₁ x₂ bk (lentOut mut a m) (cell 𝓤 H E
@@ -299,8 +295,8 @@ module _ {M : Type 1} (𝓤 : URA M) (H : Heap 𝓤) (A : Atoms 𝓤) (W : Given
         imm (b + 1)) (taken (temps imm (b + 1)) (taken (scan-temps b) m))))
         → (c : Callee 𝓤 H A C f (Scanning ns)) → (φ : Answer → List ℕ → Type 0) → ScanSays K.the-row
             T.the-row u64 u8 (answer .row) bk x₁ x₂ x₃ ns 𝓤 (c .clauses) (c .free) φ
-        → {i : Item 𝓤} {Γ : List (Item 𝓤)} → ((κs : Lfts 3) → Reading 16 xs (flat (typesAt {n = 3} (numbers 3 ns)
-            κs) (spelled 3 κs ns)) Γ)
+        → {i : Item 𝓤} {Γ : List (Item 𝓤)} → ((κs : Lfts 3) → Reading 16 xs (flat (typesAt {n = 3} (numbers 3 (length
+            ns)) κs) (spelled 3 κs ns)) Γ)
         → ((r : Answer) (l : List ℕ) → length l ≡ length (x₃ .list) → φ r l → Is (kept .row) (kept-by r bk) (kept
             .val (kept-by r bk) ∷ []) → Sq W
             (Arm 𝓤 H E x₁ x₂ bk (scanOut b m) i (x₁ .list)

@@ -30,12 +30,13 @@ use Rattle.store.specs.declared.Kept.{Kept}
 use Rattle.rules.proofs.Entry as T
 use Rattle.rules.proofs.Reader.Laws as Rd′
 use Rattle.rules.proofs.State as K
+use Rattle.lent.proofs.Core.{books, held}
 use Rattle.lent.proofs.Locals.{Pool, Lies, Spots, marked, has, allIn, allOut, taken, putBack, puts-all, spot}
 use Rattle.lent.proofs.Lend.{Lent, token, mutAt}
 use Rattle.lent.proofs.Loans.{Callee, LookSays, WriteSays, ScanSays}
 use Rattle.store.proofs.Types.{kept, answer}
-use Rattle.dispatch.proofs.Arms.{bitmapTy, books, fixed, temps, bitmap-temps, scan-temps, lentOut, scanOut}
-use Rattle.dispatch.proofs.Arms.{Looking, Writing, Scanning, lent-to, scan-to, kept-by, held, cell, room}
+use Rattle.dispatch.proofs.Arms.{bitmapTy, fixed, temps, bitmap-temps, scan-temps, lentOut, scanOut}
+use Rattle.dispatch.proofs.Arms.{Looking, Writing, Scanning, lent-to, scan-to, kept-by, cell, room}
 use Rattle.dispatch.proofs.Arms.{Arm, binds, unbinds, looked, wrote, scanned}
 
 abbrev pub bound : ℕ → ℕ → ℕ → ℕ → Body → Body

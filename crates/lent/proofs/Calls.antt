@@ -97,10 +97,9 @@ module _ {M : Type 1} {𝓤 : URA M} {H : Heap 𝓤} {A : Atoms 𝓤} {W : Given
         let y : Met 𝓤 H A (Reads R Q ps ks) c .Ghost = (((x .lft, tt), (x .share, tt), tt, (refOf x, a), (valOf x,
             vss)), g) in
         move ! (1 ∷ []) $ copies ! x $
-        use0 W (‵ (owns (typesAt ps (x .lft, tt)) a vss) ⊛ raw (c (x .lft, tt) (refOf x, a) .requires g)) has $ split !
-            $
-        -- [what the parameters own; the requires; the slice, twice; the token]
-        move ! (2 ∷ 0 ∷ []) $ fjoin ! $ nothing ! $ move ! (4 ∷ 0 ∷ []) $ join ! $ join ! $ join ! $
+        use0 W (‵ (owns (typesAt ps (x .lft, tt)) a vss) ⊛ raw (c (x .lft, tt) (refOf x, a) .requires g)) has $
+        -- [what the parameters own, and the requires; the slice, twice; the token]
+        split ! $ move ! (2 ∷ 0 ∷ []) $ fjoin ! $ nothing ! $ move ! (4 ∷ 0 ∷ []) $ join ! $ join ! $ join ! $
         use1 W (raw (Met 𝓤 H A (Reads R Q ps ks) c .pre y)) (id⊢ 𝓤 _) $
         answered W (Reads R Q ps ks) c y (calling fm) known val tl (os _ _) (λ r ws is.
         use1 W (raw (fact 𝓤 (r ≡ out))) (told r ws) $ heard ! (r ≡ out) (λ e. drop ! $

@@ -74,8 +74,7 @@ module _ (n : ℕ) (s : State) (tab : Table) (i j : ℕ) (ms : Nums 0 tt n) wher
   has-core 𝓤 H A W gs gt gi gj gn = qed W [] ∵ nothing ! $ use0 W (‵ (owns (typesAt {n = 0} (coreSlots n) tt) coreArgs
       coreVals)) (owns-make 𝓤 H A (typesAt {n = 0} (coreSlots n) tt) (Ises (typesAt {n = 0} (coreSlots n) tt)) (LL.makes
       K.the-type K′.the-plain 𝓤 H A, (LL.makes B.the-type B′.the-plain 𝓤 H A, (uint-makes 𝓤 H A W w64, (uint-makes 𝓤 H A
-          W
-      w64, makes 𝓤 H A W n)))) coreArgs coreVals (gs, (gt, ((refl, gi), ((refl, gj), gn))))) $ done !
+      W w64, makes 𝓤 H A W n)))) coreArgs coreVals (gs, (gt, ((refl, gi), ((refl, gj), gn))))) $ done !
 
 -- a plan, as the one plain parameter
 pub has-plan : (P : Shown) {M : Type 1} (𝓤 : URA M) (H : Heap 𝓤) (A : Atoms 𝓤) (W : Given 𝓤 H A) (p : P .row .Denot) →

@@ -227,9 +227,8 @@ module _ {M : Type 1} {𝓤 : URA M} {H : Heap 𝓤} {A : Atoms 𝓤} {K : Type 
       (subst (λ (j : Item 𝓤). ent 𝓤 (sep 𝓤 (mean 𝓤 H A j) (⋆ 𝓤 H A (del 𝓤 H A n Γ))) (write 𝓤 H (at 𝓤 H E i .0) (at 𝓤 H
           E i .1) zero v P)) (sym e)
       (qed W (Frame E m ∷ raw (⋆ 𝓤 H A (del 𝓤 H A n Γ)) ∷ []) ∵ check ! wt $ unveil ! $
-      use1 W (‵ (froom (at 𝓤 H E i .0) (at 𝓤 H E i .1) zero) ⊛ raw (Back 𝓤 H A W E m i v)) (room-out 𝓤 H A W i E m v h)
-          $
-      split ! $ keeps-head ! $ assume ! (‵ (Cell 𝓤 H A W E i v)) $
+      use1 W (‵ (froom (at 𝓤 H E i .0) (at 𝓤 H E i .1) zero) ⊛ raw (Back 𝓤 H A W E m i v)) (room-out 𝓤 H A W i E m v
+          h) $ split ! $ keeps-head ! $ assume ! (‵ (Cell 𝓤 H A W E i v)) $
       use2 W (‵ (frame E (set m i (holds v)))) (apply∗ 𝓤 (sem 𝓤 H A (Cell 𝓤 H A W E i v)) (sem 𝓤 H A (frame E (set m i
           (holds v))))) $ veil ! E (set m i (holds v)) $
       by ! (via 𝓤 (⋆ 𝓤 H A (put 𝓤 H A n (Frame E (set m i (holds v))) Γ)) (fill 𝓤 H A n (Frame E (set m i (holds v))) Γ)

@@ -1,6 +1,6 @@
 -- Calls that are lent several slices, by the steps of Lend.antt. Each callee takes books B by value, entries R₁
 -- and rows R₂, perhaps one more slice, and numbers.
---     numbers          parameters of type u64, by the list of their values
+--     values, spelled  arguments of type u64, by their list
 --     Free, Callee     a contract that asks for nothing, and a function that has one
 --     look-call, write-call    entries and rows are lent as `&`, and as `&mut`
 --     write-from-call          as `&mut`, and a `&` is passed on
@@ -31,42 +31,33 @@ use denote.Plain.{uint-makes}
 use denote.Builtin.{u64}
 use denote.Exit.{yes}
 use denote.Slice.{Room}
-use denote.Signature.{Slot, plain, mutSliceOf, shrSliceOf, typesAt}
+use denote.Signature.{plain, mutSliceOf, shrSliceOf, typesAt}
 use denote.Steps.{heard, nothing, owned}
 use denote.Triple.Statement.{Triple}
-use denote.Triple.End.{Kepts}
 use denote.Triple.Entry.{Args}
 use denote.Triple.Clauses.{Ended, Clauses, Lasts, atExit}
 use Rattle.lent.proofs.Lend.{Lent, again, token, mutAt, shr, refOf, valOf, lends, back, shares, back-shared}
 use Rattle.lent.proofs.Lend.{copies, Calling, Met, answered}
-
--- behind the lifetimes 0 to k
-abbrev pub numbers : (k : ℕ) → List ℕ → List (Slot k)
-numbers k [] = []
-numbers k (x ∷ xs) = plain (λ _. u64) ∷ numbers k xs
-
-abbrev pub keeps : (k : ℕ) (xs : List ℕ) → Kepts (numbers k xs)
-keeps k [] = tt
-keeps k (x ∷ xs) = (yes, keeps k xs)
+use Rattle.lent.proofs.Tail.{numbers, keeps}
 
 abbrev pub Fit : List ℕ → Type 0
 Fit [] = Unit {0}
 Fit (x ∷ xs) = (x < 2 ^ 64) × Fit xs
 
 module _ (k : ℕ) (κs : Lfts k) where
-  abbrev pub values : (xs : List ℕ) → Denots (typesAt {n = k} (numbers k xs) κs)
+  abbrev pub values : (xs : List ℕ) → Denots (typesAt {n = k} (numbers k (length xs)) κs)
   values [] = tt
   values (x ∷ xs) = (x, values xs)
 
-  abbrev pub spelled : (xs : List ℕ) → Valss (typesAt {n = k} (numbers k xs) κs)
+  abbrev pub spelled : (xs : List ℕ) → Valss (typesAt {n = k} (numbers k (length xs)) κs)
   spelled [] = tt
   spelled (x ∷ xs) = (vint w64 x ∷ [], spelled xs)
 
   own-numbers : {M : Type 1} {𝓤 : URA M} {H : Heap 𝓤} {A : Atoms 𝓤} (W : Given 𝓤 H A) (xs : List ℕ) → Fit xs
-      → ent 𝓤 (emp 𝓤) (sem 𝓤 H A (owns (typesAt {n = k} (numbers k xs) κs) (values xs) (spelled xs)))
+      → ent 𝓤 (emp 𝓤) (sem 𝓤 H A (owns (typesAt {n = k} (numbers k (length xs)) κs) (values xs) (spelled xs)))
   own-numbers {𝓤 = 𝓤} W [] f = id⊢ 𝓤 (emp 𝓤)
-  own-numbers {𝓤 = 𝓤} {H} {A} W (x ∷ xs) f = qed W [] ∵ use0 W (‵ (owns (typesAt {n = k} (numbers k xs) κs) (values
-      xs) (spelled xs)))
+  own-numbers {𝓤 = 𝓤} {H} {A} W (x ∷ xs) f = qed W [] ∵ use0 W (‵ (owns (typesAt {n = k} (numbers k (length xs)) κs)
+      (values xs) (spelled xs)))
       (own-numbers W xs (f .1)) $ owned ! u64 (Is u64) (uint-makes 𝓤 H A W w64) x _ (refl, f .0) $ fjoin ! $ done !
 
 abbrev pub Free : {M : Type 1} (𝓤 : URA M) (T : Ended) → Clauses 𝓤 T → Type 1
@@ -103,14 +94,14 @@ module _ (B R₁ R₂ Q : RattleType) where
   abbrev pub Looks : List ℕ → Ended
   Looks ns = record { signature = record { lifetimes = 2; outlives = []; params = plain (λ _. B) ∷ shrSliceOf (0 ∷
       []) tt (plain (λ _.
-      R₁)) ∷ shrSliceOf (1 ∷ []) tt (plain (λ _. R₂)) ∷ numbers 2 ns; result = plain (λ _. Q) }; kept = (yes, (yes,
-          (yes, keeps 2 ns))) }
+      R₁)) ∷ shrSliceOf (1 ∷ []) tt (plain (λ _. R₂)) ∷ numbers 2 (length ns); result = plain (λ _. Q) }; kept = (yes,
+          (yes, (yes, keeps 2 (length ns)))) }
 
   abbrev pub Writes : List ℕ → Ended
   Writes ns = record { signature = record { lifetimes = 2; outlives = []; params = plain (λ _. B) ∷ mutSliceOf (0 ∷
       []) tt (plain (λ _.
-      R₁)) ∷ mutSliceOf (1 ∷ []) tt (plain (λ _. R₂)) ∷ numbers 2 ns; result = plain (λ _. Q) }; kept = (yes, (yes,
-          (yes, keeps 2 ns))) }
+      R₁)) ∷ mutSliceOf (1 ∷ []) tt (plain (λ _. R₂)) ∷ numbers 2 (length ns); result = plain (λ _. Q) }; kept = (yes,
+          (yes, (yes, keeps 2 (length ns)))) }
 
   module _ (bk : B .Denot) (x₁ : Lent R₁) (x₂ : Lent R₂) (ns : List ℕ) where
     abbrev pub lookArgs : (κs : Lfts 2) → GName → GName → Args (Looks ns .signature) κs
@@ -163,7 +154,7 @@ module _ (B R₁ R₂ Q : RattleType) where
               ns)))), free κs a .0) in
           -- [the second token, slice and what is kept; the first three]
           move ! (2 ∷ 5 ∷ []) $ join ! $ use0 W (‵ (B .own bk bvs)) own-bk $ use0 W (‵ (owns (typesAt {n = 2}
-              (numbers 2 ns) κs) (values
+              (numbers 2 (length ns)) κs) (values
               2 κs ns) (spelled 2 κs ns))) (own-numbers 2 κs W ns fit) $ use0 W (raw (c κs a .requires (free κs a
                   .0))) (free κs a .1) $
           -- [the requires; the numbers; the books; what is kept; the second token and slice; the first]
@@ -198,7 +189,7 @@ module _ (B R₁ R₂ Q : RattleType) where
               (valOf x₂, spelled 2 κs
               ns)))), free κs a .0) in
           move ! (2 ∷ 5 ∷ []) $ join ! $ use0 W (‵ (B .own bk bvs)) own-bk $ use0 W (‵ (owns (typesAt {n = 2}
-              (numbers 2 ns) κs) (values
+              (numbers 2 (length ns)) κs) (values
               2 κs ns) (spelled 2 κs ns))) (own-numbers 2 κs W ns fit) $ use0 W (raw (c κs a .requires (free κs a
                   .0))) (free κs a .1) $
           joins2 ! $ use1 W (raw (Met 𝓤 H A (Writes ns) c .pre y)) (id⊢ 𝓤 _) $
@@ -222,16 +213,18 @@ module _ (B R₁ R₂ R₃ Q : RattleType) where
   abbrev pub WritesFrom : List ℕ → Ended
   WritesFrom ns = record { signature = record { lifetimes = 3; outlives = []; params = plain (λ _. B) ∷ mutSliceOf
       (0 ∷ []) tt (plain (λ
-      _. R₁)) ∷ mutSliceOf (1 ∷ []) tt (plain (λ _. R₂)) ∷ shrSliceOf (2 ∷ []) tt (plain (λ _. R₃)) ∷ numbers 3 ns;
+      _. R₁)) ∷ mutSliceOf (1 ∷ []) tt (plain (λ _. R₂)) ∷ shrSliceOf (2 ∷ []) tt (plain (λ _. R₃)) ∷ numbers 3 (length
+          ns);
           result = plain (λ _.
-      Q) }; kept = (yes, (yes, (yes, (yes, keeps 3 ns)))) }
+      Q) }; kept = (yes, (yes, (yes, (yes, keeps 3 (length ns))))) }
 
   abbrev pub Scans : List ℕ → Ended
   Scans ns = record { signature = record { lifetimes = 3; outlives = []; params = plain (λ _. B) ∷ shrSliceOf (0 ∷
       []) tt (plain (λ _.
-      R₁)) ∷ shrSliceOf (1 ∷ []) tt (plain (λ _. R₂)) ∷ mutSliceOf (2 ∷ []) tt (plain (λ _. R₃)) ∷ numbers 3 ns;
+      R₁)) ∷ shrSliceOf (1 ∷ []) tt (plain (λ _. R₂)) ∷ mutSliceOf (2 ∷ []) tt (plain (λ _. R₃)) ∷ numbers 3 (length
+          ns);
           result = plain (λ _.
-      Q) }; kept = (yes, (yes, (yes, (yes, keeps 3 ns)))) }
+      Q) }; kept = (yes, (yes, (yes, (yes, keeps 3 (length ns))))) }
 
   module _ (bk : B .Denot) (x₁ : Lent R₁) (x₂ : Lent R₂) (x₃ : Lent R₃) (ns : List ℕ) where
     abbrev pub fromArgs : (κs : Lfts 3) → GName → GName → Args (WritesFrom ns .signature) κs
@@ -293,8 +286,8 @@ module _ (B R₁ R₂ R₃ Q : RattleType) where
               x₂, (valOf x₃, spelled 3 κs ns))))), free κs a .0) in
           -- [the third slice, twice; the second token, slice and what is kept; the first three; the third token]
           move ! (4 ∷ 7 ∷ []) $ join ! $ move ! (0 ∷ 1 ∷ []) $ join ! $ move ! (0 ∷ 6 ∷ 1 ∷ []) $
-          use0 W (‵ (B .own bk bvs)) own-bk $ use0 W (‵ (owns (typesAt {n = 3} (numbers 3 ns) κs) (values 3 κs ns)
-              (spelled 3 κs ns)))
+          use0 W (‵ (B .own bk bvs)) own-bk $ use0 W (‵ (owns (typesAt {n = 3} (numbers 3 (length ns)) κs) (values 3 κs
+              ns) (spelled 3 κs ns)))
           (own-numbers 3 κs W ns fit) $ use0 W (raw (c κs a .requires (free κs a .0))) (free κs a .1) $
           joins3 ! $ use1 W (raw (Met 𝓤 H A (WritesFrom ns) c .pre y)) (id⊢ 𝓤 _) $
           answered W (WritesFrom ns) c y by (callee .met) val tl (os κs _ _) (λ r ws is.
@@ -340,8 +333,8 @@ module _ (B R₁ R₂ R₃ Q : RattleType) where
               (valOf x₃, spelled 3 κs ns))))), free κs a .0) in
           -- [the third token, slice and what is kept; the second three; the first three]
           move ! (5 ∷ 8 ∷ []) $ join ! $ move ! (0 ∷ 3 ∷ []) $ join ! $
-          use0 W (‵ (B .own bk bvs)) own-bk $ use0 W (‵ (owns (typesAt {n = 3} (numbers 3 ns) κs) (values 3 κs ns)
-              (spelled 3 κs ns)))
+          use0 W (‵ (B .own bk bvs)) own-bk $ use0 W (‵ (owns (typesAt {n = 3} (numbers 3 (length ns)) κs) (values 3 κs
+              ns) (spelled 3 κs ns)))
           (own-numbers 3 κs W ns fit) $ use0 W (raw (c κs a .requires (free κs a .0))) (free κs a .1) $
           joins3 ! $ use1 W (raw (Met 𝓤 H A (Scans ns) c .pre y)) (id⊢ 𝓤 _) $
           answered W (Scans ns) c y by (callee .met) val tl (os κs _ _) (λ r ws is.

@@ -215,9 +215,8 @@ module _ (sh : Look) where
                   4 0 refl (at-t 0) refl) (and-then ! (get ! 4 1 refl (at-t 1) refl) (args-after 𝓤 H A W _ _ 3 (params
                   n) ps _ 2 κs (books s ∷ held x₁ ∷ held x₂ ∷ []) n t well refl))))) (λ ga.
               land ! (from ! (stop !)) (init ! 5 refl (Q .wt 𝓤 H A W ans ga)) $
-              returns ! (look ! 5 refl) $ forget ! 5 refl $ move ! (5 ∷ 6 ∷ 2 ∷ 3 ∷ []) $ free1 ! $ frees-frame ! Params
-                  _ $
-              frees-frame ! Temps [] $ free0 ! $ move ! (1 ∷ []) $ drop ! $ by ! (exits gs ga)))
+              returns ! (look ! 5 refl) $ forget ! 5 refl $ move ! (5 ∷ 6 ∷ 2 ∷ 3 ∷ []) $ free1 ! $
+              frees-frame ! Params _ $ frees-frame ! Temps [] $ free0 ! $ move ! (1 ∷ []) $ drop ! $ by ! (exits gs ga)))
 
         walk : ent 𝓤 (onEntry 𝓤 H A (ended .signature) κs qs x xvs) (WpFn 𝓤 H (𝓣 .C) (𝓣 .Λ) function passed Post)
         walk =

@@ -282,9 +282,8 @@ module _ (sh : Scan) where
                   (has-plan P 𝓤 H A W p gp) ans (λ r ws. id⊢ 𝓤 _) (Q .val) (Q .tells)
               (λ _. and-then ! (get ! 4 4 refl (at-t 4) refl) (no-more !)) (λ ga.
               land ! (from ! (stop !)) (init ! 7 refl (Q .wt 𝓤 H A W ans ga)) $
-              returns ! (look ! 7 refl) $ forget ! 7 refl $ move ! (7 ∷ 8 ∷ 2 ∷ 3 ∷ []) $ free1 ! $ frees-frame ! Params
-                  _ $
-              frees-frame ! Temps [] $ free0 ! $ keep ! (0 ∷ 1 ∷ 2 ∷ 4 ∷ []) $ by ! (exits gs lb ga)))))
+              returns ! (look ! 7 refl) $ forget ! 7 refl $ move ! (7 ∷ 8 ∷ 2 ∷ 3 ∷ []) $ free1 ! $
+              frees-frame ! Params _ $ frees-frame ! Temps [] $ free0 ! $ keep ! (0 ∷ 1 ∷ 2 ∷ 4 ∷ []) $ by ! (exits gs lb ga)))))
 
         walk : ent 𝓤 (onEntry 𝓤 H A (ended .signature) κs qs x xvs) (WpFn 𝓤 H (𝓣 .C) (𝓣 .Λ) function passed Post)
         walk =

@@ -63,9 +63,8 @@ pub record Shape : Type 2 where
   pub Ends : State → List Entry → List ℕ → With batch (Of count (answer .row .Denot → List Entry → List ℕ → Type 0))
   pub ends : (s : State) → Is K.the-row s (books s ∷ []) → (es : List Entry) (rs : List ℕ) (κs : Lfts (lives batch)) (t
       : Tail batch count κs) → let w = applied 0 tt (counted batch count) (planOf s (tableOf es) (length es) (length
-      rs))
-      (measured batch count κs t) in told batch count κs (Ends s es rs) t (answerOf w) (entriesBy es w) (batched batch
-      count κs (rowsBy rs) t w)
+      rs)) (measured batch count κs t) in told batch count κs (Ends s es rs) t (answerOf w) (entriesBy es w) (batched
+      batch count κs (rowsBy rs) t w)
 
 -- ---- the locals behind the result, in groups
 abbrev word : Ty

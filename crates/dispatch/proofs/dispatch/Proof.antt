@@ -67,6 +67,7 @@ use Rattle.rules.proofs.State.Laws as K′
 use Rattle.lent.proofs.Locals.{AllSpots, spot-of, typeOf, spot, returns-at, Pool, has, marked, envOf, allOut, Spots}
 use Rattle.lent.proofs.Locals.{allocs-all, frees-all, takes, takes-all, puts-all, Lies, lies-as}
 use Rattle.lent.proofs.Loans.{LookSays, WriteSays, Callee}
+use Rattle.lent.proofs.Core.{books, held}
 use Rattle.lent.proofs.Lend.{Lent, token, mutAt, shr, refOf, valOf, lent-by}
 use Rattle.store.proofs.Types.{kept}
 use Rattle.store.proofs.create as create
@@ -106,7 +107,7 @@ use Rattle.store.proofs.purge as purge
 use Rattle.store.proofs.purge.Symbol as purge-def
 use Rattle.store.proofs.purge.Met as purge-thm
 use Rattle.dispatch.specs.Dispatch.{Did}
-use Rattle.dispatch.proofs.Arms.{bitmapTy, scan-to, books, fixed, temps, lent-to, held, cell, room, Arm}
+use Rattle.dispatch.proofs.Arms.{bitmapTy, scan-to, fixed, temps, lent-to, cell, room, Arm}
 use Rattle.dispatch.proofs.Arms.{binds, unbinds, looked, wrote, wrote-from, kept-by, entry, Looking, Writing}
 use Rattle.dispatch.proofs.dispatch.Key.{name as #dispatch·dispatch}
 use Rattle.dispatch.proofs.dispatch as f

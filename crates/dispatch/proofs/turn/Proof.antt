@@ -61,13 +61,14 @@ use Rattle.rules.proofs.State.Laws as K′
 use Rattle.lent.proofs.Table as B
 use Rattle.lent.proofs.Table.Laws as B′
 use Rattle.lent.proofs.Calls.{plain-call}
+use Rattle.lent.proofs.Core.{books, table, held}
 use Rattle.lent.proofs.Locals.{Lies, lies-as, AllSpots, Pool, Spots, allTrue, allocs-all, block, envOf, frees-all}
 use Rattle.lent.proofs.Locals.{puts-all, returns-at, spot, spot-of, taken, takes-all, typeOf}
 use Rattle.lent.proofs.Lend.{lent-by, Lent, token, mutAt, shr, refOf, valOf, reborrows, calling}
 use Rattle.store.proofs.Types.{kept}
 use Rattle.dispatch.proofs.Turned as Tn
 use Rattle.dispatch.proofs.Turned.Laws as Tn′
-use Rattle.dispatch.proofs.Arms.{books, cell, room, held, entry}
+use Rattle.dispatch.proofs.Arms.{cell, room, entry}
 use Rattle.dispatch.proofs.Turning.{turn-call}
 use Rattle.dispatch.proofs.entries_in as entries-in
 use Rattle.dispatch.proofs.entries_in.Symbol as entries-in-def
@@ -100,9 +101,6 @@ area es = only (array-vals (LL.vals T.the-type T′.the-laws) es)
 
 tells : (es : List Entry) (vs : List Val) → Is Area es vs → vs ≡ area es ∷ []
 tells = array-tells T.the-row (LL.vals T.the-type T′.the-laws) (LL.tells T.the-type T′.the-laws) 576
-
-abbrev table : Table → Val
-table = LL.val B.the-type B′.the-laws
 
 abbrev command : Command → Val
 command = EL.val Cm.the-type Cm′.the-laws

@@ -53,11 +53,12 @@ use Rattle.rules.proofs.Entry as T
 use Rattle.rules.proofs.State as K
 use Rattle.rules.proofs.State.Laws as K′
 use Rattle.lent.proofs.Calls.{plain-call}
+use Rattle.lent.proofs.Core.{books, held}
 use Rattle.lent.proofs.Locals.{Lies, lies-as, AllSpots, Pool, Spots, allTrue, allocs-all, envOf, frees-all, puts-all}
 use Rattle.lent.proofs.Locals.{block, returns-at, spot, spot-of, taken, takes-all, typeOf}
 use Rattle.lent.proofs.Lend.{lent-by, Lent, token, mutAt, shr, refOf, valOf, reborrows, calling}
 use Rattle.store.proofs.Types.{kept}
-use Rattle.dispatch.proofs.Arms.{books, cell, room, held, entry}
+use Rattle.dispatch.proofs.Arms.{cell, room, entry}
 use Rattle.dispatch.proofs.dispatch as dispatch
 use Rattle.dispatch.proofs.dispatch.Symbol as dispatch-def
 use Rattle.dispatch.proofs.dispatch.Met as dispatch-thm

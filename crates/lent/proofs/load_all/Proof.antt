@@ -210,8 +210,8 @@ module _ {M : Type 1} (𝓤 : URA M) (H : Heap 𝓤) (A : Atoms 𝓤) (W : Given
               less)) refl $
           stays ! (load ! (from ! (stop !)) (look ! 12 refl)) $ move ! (1 ∷ 2 ∷ []) $
           read-call fm T.the-row T.the-row (plain (λ _. usize) ∷ []) (yes, tt) (entry-at.clauses 𝓤 H A at-mem run)
-              known-at (record { lft = κ; share = q; block = b; start = o; name = γ; list = ys }) (i, tt) (vint w64
-              i ∷ [], tt) tt (has-at i i-fits) (e i) (λ r ws. id⊢ 𝓤 _)
+              known-at (record { lft = κ; share = q; block = b; start = o; name = γ; list = ys }) (i, tt) (vint w64 i ∷
+              [], tt) tt (has-at i i-fits) (e i) (λ r ws. id⊢ 𝓤 _)
               (LL.val T.the-type T′.the-laws) (LL.tells T.the-type T′.the-laws)
           (λ _ _. (and-then ! (load ! (from ! (stop !)) (look ! 19 refl)) (and-then ! (load ! (from ! (stop !))
               (look ! 16 refl)) (no-more !)))) (λ ge. land ! (from ! (stop !)) (init ! 10 refl (LL.lawful
