@@ -27,11 +27,11 @@ use types.Kit.{Given, Item, ‵, Post, post, Goal, prop, runs, Sq, Step, step, G
 use types.Run.{Opd, of-opd, assigns, Opds, look, load, and-then, stop, init, forget, land, land-last, assigns-last}
 use types.Run.{no-more}
 use types.Part.{agg}
-use denote.RattleType.{RattleType, flat}
+use denote.RattleType.{flat}
 use denote.Laws.{Is}
 use denote.Builtin.{u64, u8}
 use denote.Memory.{pointee}
-use denote.Slice.{sliceTy, sliceVal, Room}
+use denote.Slice.{sliceTy, Room}
 use denote.Signature.{typesAt}
 use denote.Struct.Laws as LL
 use denote.Triple.Clauses.{Ended}

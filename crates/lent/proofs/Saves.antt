@@ -44,7 +44,7 @@ use denote.Array.{Array, array-vals, array-tells, array-lawful, array-makes}
 use denote.ArrayMemory.{array-apart, array-whole}
 use denote.Index.{place-is, elem-out, elem-back}
 use denote.Plain.{uint-tells, uint-makes}
-use denote.Builtin.{usize, unit}
+use denote.Builtin.{usize}
 use denote.Memory.{pointee, partAt, shares, lone}
 use borrow.Table.OneValue.{part-in, part-out}
 use denote.Ref.{RefT}

@@ -37,7 +37,6 @@ use denote.Signature.{Slot, plain, shrSliceOf, mutSliceOf, typesAt}
 use denote.Steps.{owned, nothing}
 use denote.Struct.Laws as LL
 use denote.Triple.Statement.{Contract, Triple}
-use denote.Triple.End.{Kepts}
 use denote.Triple.Clauses.{Ended, Clauses, closing}
 use denote.Triple.Entry.{Args, Vals, onEntry}
 use denote.Triple.Spec.{Meets}
