@@ -1,3 +1,2 @@
-pub mod Books
-pub mod Close
 pub mod Settle
+pub mod Close

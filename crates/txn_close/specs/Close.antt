@@ -1,7 +1,7 @@
 -- Closing and settling as one pass over rising records sees them. 01 "The books", Commit, roll back.
 -- The rules' own wording is settledLce (rules/specs/Close.antt); proofs/Laws/Settle.antt shows that the two
 -- agree.
--- In order: lead, runLce, records in their places, the order of their epochs.
+-- In order: lead, runLce, records in their places, the order of their epochs, the answer.
 -- Assumes nothing.
 use mathlib.Core.Path.{_≡_}
 use mathlib.Core.Bool.{true, cond}
@@ -12,9 +12,11 @@ use Rattle.lists.specs.Lists.{pad, rises}
 use Rattle.rules.specs.Limits.{writersMax}
 use Rattle.rules.specs.Manager.{noRw, isOpen, writersOf}
 use Rattle.rules.specs.Close.{waitingTxn}
+use Rattle.rules.specs.declared.Answer.the-variants.{Closed}
 use Rattle.rules.specs.declared.RwTxn.{RwTxn}
 use Rattle.rules.specs.declared.RwTxns.{RwTxns}
 use Rattle.rules.specs.declared.Manager.{Manager}
+use Rattle.txn.specs.declared.Managed.{Managed}
 use Rattle.txn_close.specs.declared.close.Reached.{Reached}
 
 -- how many wait before the first open one
@@ -44,3 +46,7 @@ waitedAt j i m = record {
 -- the epochs rise, from above LCE to below EC
 abbrev pub RisingOf : Manager → Type 0
 RisingOf m = rises (m .clock .lce) (m .clock .ec) (map (λ t. t .epoch) (writersOf m)) ≡ true
+
+-- closed, with m after it
+abbrev pub closedTo : Manager → Managed
+closedTo m = record { answer = Closed (m .clock .lce); manager = m }

@@ -82,15 +82,22 @@ impl Books {
         ensures { λ r. ⌜ r .manager ≡ waitedAt j i (self .manager) ⌝ }
     {
         let d = no_deps();
-        let mut m = self.manager;
+        let m = self.manager;
         let mut ts = m.writers;
         ts.at[j] = RwTxn {
             epoch: i,
             waiting: 1,
             deps: d,
         };
-        m.writers = ts;
-        Books { manager: m }
+        let clock = m.clock;
+        let ps = m.readers;
+        Books {
+            manager: Manager {
+                clock: clock,
+                writers: ts,
+                readers: ps,
+            },
+        }
     }
 
     // Rolled back: the transaction at place j has no place any more.
@@ -99,11 +106,17 @@ impl Books {
         requires { ⌜ Tidy (self .manager) ⌝ }
         ensures { λ r. ⌜ r .manager ≡ withWriters (cut j (suc j) (writersOf (self .manager))) (self .manager) ⌝ }
     {
-        let mut m = self.manager;
-        let ts = m.writers;
-        let rest = cut_writers(ts, j, j + 1);
-        m.writers = rest;
-        Books { manager: m }
+        let m = self.manager;
+        let ts = cut_writers(m.writers, j, j + 1);
+        let clock = m.clock;
+        let ps = m.readers;
+        Books {
+            manager: Manager {
+                clock: clock,
+                writers: ts,
+                readers: ps,
+            },
+        }
     }
 
     // LCE is settled, and what it has reached waits no longer.
@@ -113,16 +126,18 @@ impl Books {
         requires { ⌜ RisingOf (self .manager) ⌝ }
         ensures { λ r. ⌜ r .manager ≡ settled (writersOf (self .manager)) (self .manager) ⌝ }
     {
-        let mut m = self.manager;
-        let ts = m.writers;
-        let reached = reach(ts, m.clock.lce);
-        let k = reached.count;
-        if k == 0 {
-            return self;
+        let m = self.manager;
+        let reached = reach(m.writers, m.clock.lce);
+        let ts = cut_writers(m.writers, 0, reached.count);
+        let mut clock = m.clock;
+        clock.lce = reached.lce;
+        let ps = m.readers;
+        Books {
+            manager: Manager {
+                clock: clock,
+                writers: ts,
+                readers: ps,
+            },
         }
-        let rest = cut_writers(ts, 0, k);
-        m.clock.lce = reached.lce;
-        m.writers = rest;
-        Books { manager: m }
     }
 }

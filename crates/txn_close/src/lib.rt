@@ -9,26 +9,20 @@ use txn::Managed;
 use txn::is_sound;
 use txn::refused;
 use txn_find::Found;
+use txn_find::find_writer;
 ghost use mathlib.Core.Bool.{_&&_};
 ghost use mathlib.Core.Path.{_≡_};
 ghost use Rattle.rules.specs.Close.{committedManager, rolledBackManager};
 ghost use Rattle.rules.specs.WellFormed.{managerOk};
 ghost use Rattle.rules.specs.Calls.{closeAnswer};
 ghost use Rattle.txn.specs.Managed.{managed};
+ghost use Rattle.txn_close.specs.Close.{closedTo};
 
-// Refusals, in this order: 5, 2.
-pub fn commit(m: Manager, rest: bool, i: u64) -> Managed
-    ensures { λ r. ⌜ r ≡ managed (closeAnswer i (rest && managerOk m) m (committedManager i m)) (committedManager i m) m ⌝ }
+// The answer, and the manager that the books leave.
+fn answered(books: Books) -> Managed
+    ensures { λ r. ⌜ r ≡ closedTo (books .manager) ⌝ }
 {
-    if !is_sound(m, rest) {
-        return refused(m, Refusal::Unsound);
-    }
-    let ts = m.writers;
-    let Found::At(j) = txn_find::find_writer(ts, i) else {
-        return refused(m, Refusal::NotOpen);
-    };
-    let books = Books { manager: m };
-    let next = books.closed_waiting(j, i).settled().manager;
+    let next = books.manager;
     Managed {
         answer: Answer::Closed {
             lce: next.clock.lce,
@@ -37,23 +31,38 @@ pub fn commit(m: Manager, rest: bool, i: u64) -> Managed
     }
 }
 
-// Refusals, in this order: 5, 2.
+// The first record is open, so LCE moves only where that one is closed. Refusals, in this order: 5, 2.
+pub fn commit(m: Manager, rest: bool, i: u64) -> Managed
+    ensures { λ r. ⌜ r ≡ managed (closeAnswer i (rest && managerOk m) m (committedManager i m)) (committedManager i m) m ⌝ }
+{
+    if !is_sound(m, rest) {
+        return refused(m, Refusal::Unsound);
+    }
+    let Found::At(j) = find_writer(m.writers, i) else {
+        return refused(m, Refusal::NotOpen);
+    };
+    let books = Books { manager: m };
+    let closed = books.closed_waiting(j, i);
+    if 0 < j {
+        return answered(closed);
+    }
+    answered(closed.settled())
+}
+
+// As commit, but the transaction leaves no record. Refusals, in this order: 5, 2.
 pub fn roll_back(m: Manager, rest: bool, i: u64) -> Managed
     ensures { λ r. ⌜ r ≡ managed (closeAnswer i (rest && managerOk m) m (rolledBackManager i m)) (rolledBackManager i m) m ⌝ }
 {
     if !is_sound(m, rest) {
         return refused(m, Refusal::Unsound);
     }
-    let ts = m.writers;
-    let Found::At(j) = txn_find::find_writer(ts, i) else {
+    let Found::At(j) = find_writer(m.writers, i) else {
         return refused(m, Refusal::NotOpen);
     };
     let books = Books { manager: m };
-    let next = books.closed_dropped(j).settled().manager;
-    Managed {
-        answer: Answer::Closed {
-            lce: next.clock.lce,
-        },
-        manager: next,
+    let closed = books.closed_dropped(j);
+    if 0 < j {
+        return answered(closed);
     }
+    answered(closed.settled())
 }

@@ -103,8 +103,7 @@ pub fn no_ro() -> RoTxn
 pub fn has_open(m: Manager, i: u64) -> bool
     ensures { λ r. ⌜ r ≡ hasOpen i m ⌝ }
 {
-    let ts = m.writers;
-    if let Found::At(_) = find_writer(ts, i) {
+    if let Found::At(_) = find_writer(m.writers, i) {
         true
     } else {
         false
@@ -126,8 +125,7 @@ pub fn deps_at(m: Manager, i: u64) -> Deps
 pub fn has_reader(m: Manager, t: u64) -> bool
     ensures { λ r. ⌜ r ≡ hasReader t m ⌝ }
 {
-    let ps = m.readers;
-    if let Found::At(_) = find_reader(ps, t) {
+    if let Found::At(_) = find_reader(m.readers, t) {
         true
     } else {
         false

@@ -10,6 +10,7 @@ use txn::refused;
 use txn_find::Found;
 use txn_find::LAST_TICKET;
 use txn_find::READERS_MAX;
+use txn_find::find_reader;
 ghost use mathlib.Core.Bool.{_&&_};
 ghost use mathlib.Core.Path.{_≡_};
 ghost use Rattle.rules.specs.ReadOnly.{begunRoManager, endedRoManager};
@@ -52,8 +53,7 @@ pub fn end_ro(m: Manager, rest: bool, t: u64) -> Managed
     if !is_sound(m, rest) {
         return refused(m, Refusal::Unsound);
     }
-    let ps = m.readers;
-    let Found::At(j) = txn_find::find_reader(ps, t) else {
+    let Found::At(j) = find_reader(m.readers, t) else {
         return refused(m, Refusal::NotOpen);
     };
     let next = read_only::ended_ro(m, j);

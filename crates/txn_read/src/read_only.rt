@@ -78,8 +78,7 @@ pub(crate) fn ended_ro(m: Manager, j: usize) -> Manager
     requires { ⌜ TidyReaders m ⌝ }
     ensures { λ r. ⌜ r ≡ withReaders (cut j (suc j) (readersOf m)) (m .readers .next) m ⌝ }
 {
-    let ps = m.readers;
-    let rest = cut_readers(ps, j, j + 1);
+    let rest = cut_readers(m.readers, j, j + 1);
     let mut b = m;
     b.readers = rest;
     b

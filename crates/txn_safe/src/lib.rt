@@ -70,12 +70,10 @@ fn reader_blocks(ps: RoTxns, t: u64) -> bool
 pub fn is_blocked(m: Manager, t: u64) -> bool
     ensures { λ r. ⌜ r ≡ blocked t m ⌝ }
 {
-    let ps = m.readers;
-    if reader_blocks(ps, t) {
+    if reader_blocks(m.readers, t) {
         return true;
     }
-    let ts = m.writers;
-    dep_blocks(ts, t)
+    dep_blocks(m.writers, t)
 }
 
 fn lower(a: u64, b: u64) -> u64
@@ -134,9 +132,7 @@ fn under_writers(ts: RwTxns, top: u64) -> u64
 pub fn greatest(m: Manager) -> u64
     ensures { λ r. ⌜ r ≡ greatestTarget m ⌝ }
 {
-    let ts = m.writers;
-    let ps = m.readers;
-    under_readers(ps, under_writers(ts, m.clock.lce))
+    under_readers(m.readers, under_writers(m.writers, m.clock.lce))
 }
 
 fn moved_to(m: Manager, t: u64) -> Managed

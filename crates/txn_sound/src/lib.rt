@@ -16,8 +16,8 @@ ghost use mathlib.Core.Bool.{false, _||_};
 ghost use mathlib.Core.Path.{_≡_};
 ghost use lib.Dec.{eqb};
 ghost use lib.ListN.{take, drop};
-ghost use Rattle.lists.specs.Lists.{allOf, rises};
-ghost use Rattle.rules.specs.WellFormed.{clockOk, zeros, depsOk, unusedRw, unusedRo, writersOk, readersOk, managerOk};
+ghost use Rattle.lists.specs.Lists.{allOf};
+ghost use Rattle.rules.specs.WellFormed.{clockOk, depsOk, unusedRw, unusedRo, writersOk, readersOk, managerOk};
 ghost use Rattle.txn_sound.specs.Sound.{waitsOk, writerOk, writersRanked, readerOk, readersRanked};
 
 fn clock_ok(c: Clock) -> bool
@@ -37,39 +37,7 @@ fn clock_ok(c: Clock) -> bool
 
 // ---- read-write transactions
 
-fn zeros_from(ds: Deps, k: usize) -> bool
-    ensures { λ r. ⌜ r ≡ zeros (drop k (ds .at)) ⌝ }
-{
-    let mut j = k;
-    while j < DEPS_MAX {
-        if ds.at[j] != 0 {
-            return false;
-        }
-        j += 1;
-    }
-    true
-}
-
-fn rising(ds: Deps, low: u64, hi: u64) -> bool
-    ensures { λ r. ⌜ r ≡ rises low hi (take (ds .count) (ds .at)) ⌝ }
-{
-    let n = least(ds.count, DEPS_MAX);
-    let mut lo = low;
-    let mut j: usize = 0;
-    while j < n {
-        let d = ds.at[j];
-        if d <= lo {
-            return false;
-        }
-        if hi <= d {
-            return false;
-        }
-        lo = d;
-        j += 1;
-    }
-    true
-}
-
+// At most 31, rising, and 0 behind them.
 fn deps_ok(t: RwTxn, lse: u64) -> bool
     ensures { λ r. ⌜ r ≡ depsOk lse t ⌝ }
 {
@@ -78,10 +46,26 @@ fn deps_ok(t: RwTxn, lse: u64) -> bool
     if DEPS_MAX < n {
         return false;
     }
-    if !rising(ds, lse, t.epoch) {
-        return false;
+    let mut lo = lse;
+    let mut j: usize = 0;
+    while j < n {
+        let d = ds.at[j];
+        if d <= lo {
+            return false;
+        }
+        if t.epoch <= d {
+            return false;
+        }
+        lo = d;
+        j += 1;
     }
-    zeros_from(ds, n)
+    while j < DEPS_MAX {
+        if ds.at[j] != 0 {
+            return false;
+        }
+        j += 1;
+    }
+    true
 }
 
 fn waits_ok(t: RwTxn, seen: bool) -> bool
@@ -151,11 +135,10 @@ fn unused_rw(t: RwTxn) -> bool
     if t.waiting != 0 {
         return false;
     }
-    let ds = t.deps;
-    if ds.count != 0 {
+    if t.deps.count != 0 {
         return false;
     }
-    zeros_from(ds, 0)
+    deps_ok(t, 0)
 }
 
 fn writers_unused(ts: RwTxns) -> bool
@@ -244,28 +227,25 @@ fn readers_unused(ps: RoTxns) -> bool
 fn readers_ok(m: Manager) -> bool
     ensures { λ r. ⌜ r ≡ readersOk m ⌝ }
 {
-    let ps = m.readers;
-    if READERS_MAX < ps.count {
+    if READERS_MAX < m.readers.count {
         return false;
     }
-    if ps.next < 1 {
+    if m.readers.next < 1 {
         return false;
     }
-    if LAST_TICKET + 1 < ps.next {
+    if LAST_TICKET + 1 < m.readers.next {
         return false;
     }
-    let c = m.clock;
-    if !readers_ranked(ps, c) {
+    if !readers_ranked(m.readers, m.clock) {
         return false;
     }
-    readers_unused(ps)
+    readers_unused(m.readers)
 }
 
 pub fn manager_ok(m: Manager) -> bool
     ensures { λ r. ⌜ r ≡ managerOk m ⌝ }
 {
-    let c = m.clock;
-    if !clock_ok(c) {
+    if !clock_ok(m.clock) {
         return false;
     }
     if !writers_ok(m) {

@@ -1,14 +1,14 @@
 -- Where the epochs rise, settling drops the records that wait before the first open one, and LCE is the last
 -- of their epochs.
 -- Definitions: specs/Close.antt; rules/specs/Close.antt.
--- In order: LCE, the records kept, the pass, the manager settled.
+-- In order: LCE, the records kept, the pass, the manager settled, where the first record stays open.
 -- Assumes nothing.
 use mathlib.Core.Path.{_≡_, refl, sym, ap, _∙_}
 use mathlib.Core.Bool.{true, false, not}
-use mathlib.Core.List.{List, [], _∷_, foldr}
-use Prim.Native.Nat.{ℕ, _+_, _≤_, _<_, max}
+use mathlib.Core.List.{List, [], _∷_, foldr, List·Memᴰ·head as here}
+use Prim.Native.Nat.{ℕ, zero, suc, _+_, _≤_, _<_, max}
 use native.Mathlib.Omega.{arith}
-use lib.ListN.{length, drop}
+use lib.ListN.{length, drop, set}
 use lib.Seq.{length-take-le}
 use borrow.Author.Tests.{lt-ltb, le-ltb, le-leb, lt-leb}
 use Rattle.lists.specs.Lists.{keepIf, rises, pad}
@@ -16,11 +16,13 @@ use Rattle.lists.proofs.Laws.Bools.{split, and-false}
 use Rattle.lists.proofs.Laws.Order.{rises-split}
 use Rattle.rules.specs.Manager.{noRw, isOpen, writersOf, withLce}
 use Rattle.rules.specs.Close.{unblocked, settledLce, settled}
+use Rattle.rules.specs.declared.Clock.{Clock}
 use Rattle.rules.specs.declared.RwTxn.{RwTxn}
 use Rattle.rules.specs.declared.Manager.{Manager}
-use Rattle.rules.proofs.Laws.Manager.{epochs}
+use Rattle.rules.proofs.Laws.Manager.{epochs, WriterFacts, status-waits}
 use Rattle.rules.proofs.Laws.Close.{reached, kept}
-use Rattle.txn.specs.Records.{Tidy}
+use Rattle.txn_sound.proofs.Laws.Sound.{none-below}
+use Rattle.txn.specs.Records.{cut, Tidy}
 use Rattle.txn_close.specs.Close.{lead, runLce, writersWith, RisingOf}
 
 -- ---- LCE
@@ -146,3 +148,23 @@ module _ (m : Manager) (r : RisingOf m) where
         writers = record { at = (t ∙ ap (pad 32 noRw) (sym z)) i; count = (sym l ∙ ap length (sym z)) i };
           readers = m .readers })
       ∙ sym settled-runs
+
+-- ---- where a record behind the first is closed nothing is reached
+
+module _ (c : Clock) where
+  first-open : (t : RwTxn) (ts : List RwTxn) → WriterFacts c (t ∷ ts) → isOpen t ≡ true
+  first-open t ts f = split (isOpen t) (λ o. o) λ n.
+    let s = rises-split (c .lce) (c .ec) (t .epoch) (epochs ts) (f .rising) in
+    let b = status-waits (t ∷ ts) t (f .status t (here refl)) n .behind in
+    let e = none-below (c .ec) (t .epoch) (t .epoch) ts (omega arith) (s .rest) in
+    absurd (let z : true ≡ false = sym (rw n at b) ∙ e in let y : _≡_ {A = ℕ} 0 1 = cc in omega arith)
+
+  pub lead-set : (ts : List RwTxn) (j : ℕ) (v : RwTxn) → WriterFacts c ts → 0 < j → lead (set ts j v) ≡ 0
+  lead-set [] j v f h = refl
+  lead-set (t ∷ ts) zero v f h = absurd (omega arith)
+  lead-set (t ∷ ts) (suc j) v f h = rw (first-open t ts f)
+
+  pub lead-cut : (ts : List RwTxn) (j : ℕ) → WriterFacts c ts → 0 < j → lead (cut j (suc j) ts) ≡ 0
+  lead-cut ts zero f h = absurd (omega arith)
+  lead-cut [] (suc j) f h = refl
+  lead-cut (t ∷ ts) (suc j) f h = rw (first-open t ts f)

@@ -18,15 +18,15 @@ enum-told-2 c = search needs
 
 returns : tie.Need-returns
 returns c =
-    let c2 = c .before .before in let c4 = c2 .before .before in
-    let s = c4 in
+    let c2 = c .before .before in let c3 = c2 .before in
+    let s = c3 in
     sym (writer-stands (s .args .i) (s .args .m .writers) _ (manager-writers-32 (s .args .m) _ (s .good .0))
       (sym (c2 .find-writer .ensures) ∙ c .enum-told .given .1) .any)
 
 returns-2 : tie.Need-returns-2
 returns-2 c =
-    let c2 = c .before .before in let c4 = c2 .before .before in
-    let s = c4 .args in
+    let c2 = c .before .before in let c3 = c2 .before in
+    let s = c3 .args in
     sym (no-writer (s .i) (s .m .writers) (sym (c2 .find-writer .ensures) ∙ c .enum-told2 .given .1))
 
 pub has-open-spec : {M : Type 1} → statement M

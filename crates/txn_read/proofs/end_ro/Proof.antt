@@ -40,31 +40,30 @@ refused-requires-2 c κs = search needs
 returns-2 : tie.Need-returns-2
 unfolding endRoAnswer
 returns-2 c =
-    let c3 = c .before .before .before in let c5 = c3 .before .before in let c6 = c5 .before in
-    let c7 = c6 .before in let sound = sym (c6 .is-sound .ensures) ∙ not-false _ (c5 .if1 .left) in
-    let s = c7 .args in
+    let c3 = c .before .before .before in let c4 = c3 .before in let c5 = c4 .before in
+    let sound = sym (c5 .is-sound .ensures) ∙ not-false _ (c4 .if1 .left) in
+    let s = c5 .before .args in
     c .refused2 .ensures
       ∙ rw (sound, no-reader (s .t) (s .m .readers)
       (sym (c3 .find-reader .ensures) ∙ c .before .enum-told .given .1))
 
 ended-ro-requires : tie.Need-ended-ro-requires
 ended-ro-requires c κs =
-    let c3 = c .before .before .before in let c5 = c3 .before .before in let c6 = c5 .before in
-    let c7 = c6 .before in let sound = sym (c6 .is-sound .ensures) ∙ not-false _ (c5 .if1 .left) in
-    let s = c7 in let m = s .args .m in let len = manager-readers-32 m _ (s .good .0) in
-      let ok = and-right (c7 .args .rest) (managerOk (c7 .args .m)) sound in
+    let c3 = c .before .before .before in let c4 = c3 .before in let c5 = c4 .before in
+    let sound = sym (c5 .is-sound .ensures) ∙ not-false _ (c4 .if1 .left) in
+    let s = c5 .before in let m = s .args .m in let len = manager-readers-32 m _ (s .good .0) in
+    let ok = and-right (s .args .rest) (managerOk m) sound in
     ((reader-place m ok len (s .args .t) _ (sym (c3 .find-reader .ensures) ∙ c .before .j .given .1),
       readers-room m ok), readers-tidy m ok len)
 
 returns-3 : tie.Need-returns-3
 unfolding endRoAnswer
 returns-3 c =
-    let c2 = c .before .before in let c4 = c2 .before .before in let c6 = c4 .before .before in
-    let c7 = c6 .before in let c8 = c7 .before in
-    let sound = sym (c7 .is-sound .ensures) ∙ not-false _ (c6 .if1 .left) in
-    let s = c8 in let m = s .args .m in let len = manager-readers-32 m _ (s .good .0) in
-      let ok = and-right (c8 .args .rest) (managerOk (c8 .args .m)) sound in
-    let at = sym (c4 .find-reader .ensures) ∙ c2 .j .given .1 in
+    let c4 = c .before .before .before .before in let c5 = c4 .before in let c6 = c5 .before in
+    let sound = sym (c6 .is-sound .ensures) ∙ not-false _ (c5 .if1 .left) in
+    let s = c6 .before in let m = s .args .m in let len = manager-readers-32 m _ (s .good .0) in
+    let ok = and-right (s .args .rest) (managerOk m) sound in
+    let at = sym (c4 .find-reader .ensures) ∙ c .before .before .j .given .1 in
     let p = reader-stands (s .args .t) (m .readers) _ len at in
     rw (c .ended-ro .ensures ∙ end-is m ok len (s .args .t) _ at, sound, p .any)
 

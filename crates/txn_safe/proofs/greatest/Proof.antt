@@ -21,8 +21,7 @@ under-readers-requires c κs = search needs
 returns : tie.Need-returns
 unfolding greatestTarget
 returns c =
-    let c4 = c .before .before .before .before in
-    let m = c4 .args .m in
+    let m = c .before .before .args .m in
     rw (c .under-readers .ensures, c .before .under-writers .ensures)
       (sym (lowest-back (m .clock .lce) (map (λ (p : RoTxn). p .epoch) (readersOf m))
         (gather underDeps (writersOf m))))

@@ -19,8 +19,8 @@ dep-blocks-requires c κs = search needs
 returns-2 : tie.Need-returns-2
 unfolding blocked
 returns-2 c =
-    let c2 = c .before .before in let c3 = c2 .before in
-    rw (sym (c3 .reader-blocks .ensures) ∙ c2 .if1 .left) (c .dep-blocks .ensures)
+    let c2 = c .before .before in
+    rw (sym (c2 .reader-blocks .ensures) ∙ c .before .if1 .left) (c .dep-blocks .ensures)
 
 pub is-blocked-spec : {M : Type 1} → statement M
 is-blocked-spec = tie.close (tie.spec reader-blocks-requires returns dep-blocks-requires returns-2)

@@ -44,7 +44,7 @@ reader-tests true true l h false s = and-false (l && h)
 -- ---- read-write records
 
 -- no record is below one that stands before it
-none-below : (hi lo e : ℕ) (ts : List RwTxn) → e ≤ lo → rises lo hi (epochs ts) ≡ true
+pub none-below : (hi lo e : ℕ) (ts : List RwTxn) → e ≤ lo → rises lo hi (epochs ts) ≡ true
     → anyOf (opensBelow e) ts ≡ false
 none-below hi lo e [] h r = refl
 none-below hi lo e (t ∷ ts) h r = let s = rises-split lo hi (t .epoch) (epochs ts) r in let u = s .above in

@@ -35,12 +35,11 @@ readers-ranked-requires c κs = search needs
 returns-4 : tie.Need-returns-4
 unfolding readersOk lastTicket
 returns-4 c =
-    let c3 = c .before .before .before in let c5 = c3 .before .before in let c7 = c5 .before .before in
-    let c10 = c7 .before .before .before in
-    let m = c10 .args .m in
+    let c2 = c .before .before in let c4 = c2 .before .before in let c6 = c4 .before .before in
+    let m = c6 .before .before .args .m in
     let e = sym (readers-ranked-is (m .readers .next) (m .clock) 0 (readersOf m))
       ∙ sym (c .before .readers-ranked .ensures) ∙ not-true _ (c .if4 .taken) in
-    rw (le-leb _ _ (c7 .if1 .left), le-leb _ _ (c5 .if2 .left), le-leb _ _ (c3 .if3 .left), e)
+    rw (le-leb _ _ (c6 .if1 .left), le-leb _ _ (c4 .if2 .left), le-leb _ _ (c2 .if3 .left), e)
 
 readers-unused-requires : tie.Need-readers-unused-requires
 readers-unused-requires c κs = search needs
@@ -48,12 +47,11 @@ readers-unused-requires c κs = search needs
 returns-5 : tie.Need-returns-5
 unfolding readersOk lastTicket
 returns-5 c =
-    let c2 = c .before .before in let c4 = c2 .before .before in let c6 = c4 .before .before in
-    let c8 = c6 .before .before in let c11 = c8 .before .before .before in
-    let m = c11 .args .m in
+    let c2 = c .before .before in let c3 = c2 .before in let c5 = c3 .before .before in
+    let c7 = c5 .before .before in let m = c7 .before .before .args .m in
     let e = sym (readers-ranked-is (m .readers .next) (m .clock) 0 (readersOf m))
       ∙ sym (c2 .readers-ranked .ensures) ∙ not-false _ (c .before .if4 .left) in
-    rw (le-leb _ _ (c8 .if1 .left), le-leb _ _ (c6 .if2 .left), le-leb _ _ (c4 .if3 .left), e)
+    rw (le-leb _ _ (c7 .if1 .left), le-leb _ _ (c5 .if2 .left), le-leb _ _ (c3 .if3 .left), e)
       (c .readers-unused .ensures)
 
 pub readers-ok-spec : {M : Type 1} → statement M

@@ -11,11 +11,10 @@ add-cut-writers c = search needs
 
 cut-writers-requires : tie.Need-cut-writers-requires
 cut-writers-requires c κs =
-    let c2 = c .before .before in
-    let p = c2 .pre in ((omega arith, omega arith, p .0 .1), p .1)
+    let p = c .before .pre in ((omega arith, omega arith, p .0 .1), p .1)
 
 returns : tie.Need-returns
-returns c = rw (c .cut-writers .ensures, add-one)
+returns c = rw (c .before .before .cut-writers .ensures, add-one)
 
 pub closed-dropped-spec : {M : Type 1} → statement M
 closed-dropped-spec = tie.close (tie.spec add-cut-writers cut-writers-requires returns)
