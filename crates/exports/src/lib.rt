@@ -30,8 +30,7 @@ pub extern "C" fn nizgulk_begin_commit(m: Manager) -> Manager
 {
     let e = m.clock.ec;
     let begun = txn_start::begin(m, true);
-    let between = begun.manager;
-    let committed = txn_close::commit(between, true, e);
+    let committed = txn_close::commit(begun.manager, true, e);
     let after = committed.manager;
     after
 }

@@ -1,6 +1,6 @@
 // What the calls on the transaction manager share. 01 "The books"; 004 III-A, III-B.
-// Each call is answered by 01's refusals in 01's order, and a refusal hands the manager back as it was. rest says whether
-// the rest of the store is sound; the manager's own soundness is tested by is_sound.
+// Each call is answered by 01's refusals in 01's order, and a refusal hands the manager back as it was. rest says
+// whether the rest of the store is sound; the manager's own soundness is tested by is_sound.
 use rules::Answer;
 use rules::Manager;
 use rules::Refusal;

@@ -33,7 +33,8 @@ fn answered(books: Books) -> Managed
 
 // The first record is open, so LCE moves only where that one is closed. Refusals, in this order: 5, 2.
 pub fn commit(m: Manager, rest: bool, i: u64) -> Managed
-    ensures { λ r. ⌜ r ≡ managed (closeAnswer i (rest && managerOk m) m (committedManager i m)) (committedManager i m) m ⌝ }
+    ensures { λ r. ⌜ (let next = committedManager i m in
+        r ≡ managed (closeAnswer i (rest && managerOk m) m next) next m) ⌝ }
 {
     if !is_sound(m, rest) {
         return refused(m, Refusal::Unsound);
@@ -51,7 +52,8 @@ pub fn commit(m: Manager, rest: bool, i: u64) -> Managed
 
 // As commit, but the transaction leaves no record. Refusals, in this order: 5, 2.
 pub fn roll_back(m: Manager, rest: bool, i: u64) -> Managed
-    ensures { λ r. ⌜ r ≡ managed (closeAnswer i (rest && managerOk m) m (rolledBackManager i m)) (rolledBackManager i m) m ⌝ }
+    ensures { λ r. ⌜ (let next = rolledBackManager i m in
+        r ≡ managed (closeAnswer i (rest && managerOk m) m next) next m) ⌝ }
 {
     if !is_sound(m, rest) {
         return refused(m, Refusal::Unsound);

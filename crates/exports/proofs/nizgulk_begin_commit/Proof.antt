@@ -13,7 +13,7 @@ commit-requires : tie.Need-commit-requires
 commit-requires c κs = search needs
 
 returns : tie.Need-returns
-returns c = rw (c .before .commit .ensures, c .before .before .before .begin .ensures)
+returns c = rw (c .before .commit .ensures, c .before .before .begin .ensures)
 
 pub nizgulk-begin-commit-spec : {M : Type 1} → statement M
 nizgulk-begin-commit-spec = tie.close (tie.spec begin-requires commit-requires returns)

@@ -1,6 +1,6 @@
 -- Elements taken out of a list, and the one that a test finds. Definitions: specs/Records.antt,
 -- txn_find/specs/Find.antt.
--- In order: the only element that passes, dropped or changed; taking out of an array in place.
+-- In order: the only element that passes, dropped or changed; taking out of an array in place, by a loop.
 -- Assumes nothing.
 use mathlib.Core.Path.{_≡_, refl, sym, ap, subst, _∙_}
 use mathlib.Core.Bool.{Bool, true, false, not, cond}
@@ -78,13 +78,13 @@ module _ {A : Type 0} (z d : A) (xs : List A) (n a b : ℕ) (len : length xs ≡
   front-length : length (take a (take n xs)) ≡ a
   front-length = length-take-le a (take n xs) (rw used-length (omega arith))
 
-  pub cut-length : length (cut a b (take n xs)) ≡ n - (b - a)
+  cut-length : length (cut a b (take n xs)) ≡ n - (b - a)
   cut-length = simp (length-append, front-length, length-drop, used-length) (omega arith)
 
   target-32 : length (target z xs n a b) ≡ 32
   target-32 = length-pad 32 z (cut a b (take n xs)) (rw cut-length (omega arith))
 
-  pub target-moved : (q : ℕ) → b + q < n → getD (target z xs n a b) (a + q) d ≡ getD xs (b + q) d
+  target-moved : (q : ℕ) → b + q < n → getD (target z xs n a b) (a + q) d ≡ getD xs (b + q) d
   target-moved q h =
       let c = cut a b (take n xs) in
       let back : getD c (a + q) d ≡ getD (drop b (take n xs)) q d =
@@ -93,14 +93,14 @@ module _ {A : Type 0} (z d : A) (xs : List A) (n a b : ℕ) (len : length xs ≡
       List·getD-append c (replicate (32 - length c) z) d (a + q) (rw cut-length (omega arith))
       ∙ back ∙ getD-drop b (take n xs) q d ∙ getD-take n xs (b + q) d h
 
-  pub target-clear : (q : ℕ) → n ≤ b + q → a + q < 32 → getD (target z xs n a b) (a + q) d ≡ z
+  target-clear : (q : ℕ) → n ≤ b + q → a + q < 32 → getD (target z xs n a b) (a + q) d ≡ z
   target-clear q h l =
       let c = cut a b (take n xs) in let k = a + q - (n - (b - a)) in
       let e : a + q ≡ length c + k = (let w = cut-length in omega arith) in
       ap (λ (i : ℕ). getD (target z xs n a b) i d) e ∙ getD-append-add c (replicate (32 - length c) z) k d
       ∙ getD-replicate (32 - length c) k z d (let w = cut-length in omega arith)
 
-  pub cut-start : xs ≡ take a (target z xs n a b) ++ drop a xs
+  cut-start : xs ≡ take a (target z xs n a b) ++ drop a xs
   cut-start =
       let c = cut a b (take n xs) in
       let t : take a (target z xs n a b) ≡ take a xs =
@@ -109,7 +109,7 @@ module _ {A : Type 0} (z d : A) (xs : List A) (n a b : ℕ) (len : length xs ≡
             ∙ take-take a a (take n xs) (omega arith) ∙ take-take a n xs (omega arith) in
       rw t (sym (take-append-drop a xs))
 
-  pub cut-step : (j : ℕ) (v : A) → j < 32 → getD (target z xs n a b) j d ≡ v
+  cut-step : (j : ℕ) (v : A) → j < 32 → getD (target z xs n a b) j d ≡ v
       → set (take j (target z xs n a b) ++ drop j xs) j v ≡ take (j + 1) (target z xs n a b) ++ drop (j + 1) xs
   cut-step j v h e =
       let t = target z xs n a b in
@@ -117,7 +117,7 @@ module _ {A : Type 0} (z d : A) (xs : List A) (n a b : ℕ) (len : length xs ≡
         (set-at (take j t) (getD xs j d) (drop (suc j) xs) v j (length-take-le j t (rw target-32 (omega arith)))
         ∙ sym (append-snoc (take j t) v (drop (suc j) xs)))
 
-  pub cut-end : xs ≡ pad 32 z (take n xs) → take n (target z xs n a b) ++ drop n xs ≡ target z xs n a b
+  cut-end : xs ≡ pad 32 z (take n xs) → take n (target z xs n a b) ++ drop n xs ≡ target z xs n a b
   cut-end tidy =
       let c = cut a b (take n xs) in let t = target z xs n a b in
       let g : n ≡ length c + (b - a) = (let w = cut-length in omega arith) in
@@ -131,19 +131,50 @@ module _ {A : Type 0} (z d : A) (xs : List A) (n a b : ℕ) (len : length xs ≡
       let same : 32 - length c - (b - a) ≡ 32 - n = (let w = cut-length in omega arith) in
       rw was (ap (λ (k : ℕ). take n t ++ replicate k z) (sym same) ∙ (rw (← after) (take-append-drop n t)))
 
-  -- one place of the loop: the record from gap places on, or none
-  pub cut-moves : (j : ℕ) → a ≤ j → j + (b - a) < n
-      → set (take j (target z xs n a b) ++ drop j xs) j (getD xs (j + (b - a)) d)
-        ≡ take (j + 1) (target z xs n a b) ++ drop (j + 1) xs
-  cut-moves j h l =
-      let q = j - a in let e : a + q ≡ j = omega arith in let g : b + q ≡ j + (b - a) = omega arith in
-      cut-step j (getD xs (j + (b - a)) d) (omega arith)
-        (sym (ap (λ (k : ℕ). getD (target z xs n a b) k d) e) ∙ target-moved q (omega arith)
-          ∙ ap (λ (k : ℕ). getD xs k d) g)
+-- ---- the loop: up to place j the array is what it is to be, and after it what it was
 
-  pub cut-clears : (j : ℕ) → a ≤ j → n ≤ j + (b - a) → j < 32
-      → set (take j (target z xs n a b) ++ drop j xs) j z ≡ take (j + 1) (target z xs n a b) ++ drop (j + 1) xs
-  cut-clears j h l k =
-      let q = j - a in let e : a + q ≡ j = omega arith in
-      cut-step j z k (sym (ap (λ (i : ℕ). getD (target z xs n a b) i d) e)
-        ∙ target-clear q (omega arith) (omega arith))
+pub record Cutting {A : Type 0} (z : A) (xs : List A) (n a b j : ℕ) (at : List A) : Type 0 where
+  pub low : a ≤ j
+  pub high : j ≤ n
+  pub room : n ≤ 32
+  pub len : length xs ≡ 32
+  pub order : a ≤ b
+  pub fits : b ≤ n
+  pub held : at ≡ take j (target z xs n a b) ++ drop j xs
+
+module _ {A : Type 0} (z d : A) (xs : List A) (n a b : ℕ) where
+  pub cutting-start : length xs ≡ 32 → n ≤ 32 → a ≤ b → b ≤ n → Cutting z xs n a b a xs
+  cutting-start len le ab bn = record {
+    low = omega arith; high = omega arith; room = le; len = len; order = ab; fits = bn;
+    held = cut-start z d xs n a b len le ab bn }
+
+  module _ {j : ℕ} {at : List A} (c : Cutting z xs n a b j at) where
+    step : (v : A) → j < n → getD (target z xs n a b) j d ≡ v → Cutting z xs n a b (j + 1) (set at j v)
+    step v l e = let w = c .low in let r = c .room in record {
+      low = omega arith; high = omega arith; room = r; len = c .len; order = c .order; fits = c .fits;
+      held = rw (c .held) (cut-step z d xs n a b (c .len) r (c .order) (c .fits) j v (omega arith) e) }
+
+    -- one place: the record from gap places on, or none
+    pub cutting-move : j + (b - a) < n → Cutting z xs n a b (j + 1) (set at j (getD xs (j + (b - a)) d))
+    cutting-move l =
+        let w = c .low in let o = c .order in let q = j - a in
+        let e : a + q ≡ j = omega arith in let g : b + q ≡ j + (b - a) = omega arith in
+        step (getD xs (j + (b - a)) d) (omega arith)
+          (sym (ap (λ (k : ℕ). getD (target z xs n a b) k d) e)
+            ∙ target-moved z d xs n a b (c .len) (c .room) o (c .fits) q (omega arith)
+            ∙ ap (λ (k : ℕ). getD xs k d) g)
+
+    pub cutting-clear : n ≤ j + (b - a) → j < n → Cutting z xs n a b (j + 1) (set at j z)
+    cutting-clear l k =
+        let w = c .low in let o = c .order in let r = c .room in let q = j - a in
+        let e : a + q ≡ j = omega arith in
+        step z k (sym (ap (λ (i : ℕ). getD (target z xs n a b) i d) e)
+          ∙ target-clear z d xs n a b (c .len) r o (c .fits) q (omega arith) (omega arith))
+
+    pub cutting-end : n ≤ j → xs ≡ pad 32 z (take n xs)
+      → (at ≡ target z xs n a b) × (n - (b - a) ≡ length (cut a b (take n xs)))
+    cutting-end l tidy =
+        let h = c .high in let e : j ≡ n = omega arith in
+        (c .held ∙ ap (λ (k : ℕ). take k (target z xs n a b) ++ drop k xs) e
+          ∙ cut-end z d xs n a b (c .len) (c .room) (c .order) (c .fits) tidy,
+        sym (cut-length z d xs n a b (c .len) (c .room) (c .order) (c .fits)))

@@ -7,6 +7,9 @@ use mathlib.Core.Bool.{Bool, true, not, _&&_}
 use mathlib.Core.List.{List, _++_}
 use Prim.Native.Nat.{ℕ, suc, _-_, _≤_, _<_}
 use native.Mathlib.Omega.{arith}
+use mir.Val.{Val}
+use denote.Laws.{Is}
+use denote.Struct.Declared.{row}
 use lib.ListN.{length, getD, set, replicate, length-set}
 use lib.Seq.{take-set-lt, set-append-left, length-take-le}
 use Rattle.lists.specs.Lists.{rises, pad}
@@ -21,6 +24,7 @@ use Rattle.rules.specs.Calls.{closeAnswer}
 use Rattle.rules.specs.WellFormed.{managerOk}
 use Rattle.rules.specs.declared.RwTxn.{RwTxn}
 use Rattle.rules.specs.declared.Manager.{Manager}
+use Rattle.rules.proofs.Manager as manager-type
 use Rattle.rules.proofs.Laws.Manager.{epochs, manager-facts, opens-epoch}
 use Rattle.rules.proofs.Laws.Close.{epochs-committed}
 use Rattle.txn.specs.Managed.{managed}
@@ -28,7 +32,7 @@ use Rattle.txn.specs.Records.{cut, Tidy}
 use Rattle.txn_close.specs.Close.{lead, waitedAt, RisingOf, closedTo}
 use Rattle.txn_find.specs.Find.{findFrom, writerAt}
 use Rattle.txn_find.specs.declared.Found.the-variants.{At}
-use Rattle.txn_find.proofs.Laws.Places.{pastRw}
+use Rattle.txn_find.proofs.Laws.Places.{pastRw, manager-writers-32, manager-writers-31}
 use Rattle.txn_find.proofs.Laws.Scan.{length-pad}
 use Rattle.txn_find.proofs.Laws.Find.{writer-stands}
 use Rattle.txn.proofs.Laws.Records.{writers-room, writers-tidy}
@@ -46,34 +50,43 @@ pub record Closes (j : ℕ) (closed next : Manager) : Type 0 where
   pub still : 0 < j → closed ≡ next
 
 -- the transaction of epoch i was found at place j of the sound manager m
-module _ (m : Manager) (rest : Bool) (sound : rest && managerOk m ≡ true) (len : length (m .writers .at) ≡ 32)
-    (each : (n : ℕ) → n < 32 → length (getD (m .writers .at) n pastRw .deps .at) ≡ 31) (i j : ℕ)
-    (at : writerAt i (m .writers) ≡ At j) where
+pub record Opened (m : Manager) (rest : Bool) (i j : ℕ) : Type 0 where
+  pub sound : rest && managerOk m ≡ true
+  pub len : length (m .writers .at) ≡ 32
+  pub each : (n : ℕ) → n < 32 → length (getD (m .writers .at) n pastRw .deps .at) ≡ 31
+  pub at : writerAt i (m .writers) ≡ At j
+
+pub opened : (m : Manager) (rest : Bool) (vs : List Val) → Is (row manager-type.the-type) m vs → {i j : ℕ}
+    → rest && managerOk m ≡ true → writerAt i (m .writers) ≡ At j → Opened m rest i j
+opened m rest vs g s e = record {
+  sound = s; len = manager-writers-32 m vs g; each = manager-writers-31 m vs g; at = e }
+
+module _ {m : Manager} {rest : Bool} {i j : ℕ} (o : Opened m rest i j) where
   abbrev ts : List RwTxn
   ts = writersOf m
 
   ok : managerOk m ≡ true
-  ok = and-right rest (managerOk m) sound
+  ok = and-right rest (managerOk m) (o .sound)
 
   found : findFrom (opens i) (writersOf m) 0 ≡ At j
   unfolding writerAt
-  found = at
+  found = o .at
 
   pub close-room : m .writers .count ≤ 32
   close-room = writers-room m ok
 
   pub close-tidy : Tidy m
-  close-tidy = writers-tidy m ok len each
+  close-tidy = writers-tidy m ok (o .len) (o .each)
 
   pub close-place : j < m .writers .count
-  close-place = let s = writer-stands i (m .writers) j len at .below in omega arith
+  close-place = let s = writer-stands i (m .writers) j (o .len) (o .at) .below in omega arith
 
   pub close-answers : (next : Manager) → closedTo next ≡ managed (closeAnswer i (rest && managerOk m) m next) next m
   unfolding closeAnswer
-  close-answers next = rw (sound, writer-stands i (m .writers) j len at .any)
+  close-answers next = rw (o .sound, writer-stands i (m .writers) j (o .len) (o .at) .any)
 
   used : length (writersOf m) ≡ m .writers .count
-  used = let r = close-room in length-take-le (m .writers .count) (m .writers .at) (omega arith)
+  used = let r = close-room in let l = o .len in length-take-le (m .writers .count) (m .writers .at) (omega arith)
 
   rise : rises (m .clock .lce) (m .clock .ec) (epochs (writersOf m)) ≡ true
   rise = manager-facts m ok .writers .rising
@@ -102,7 +115,7 @@ module _ (m : Manager) (rest : Bool) (sound : rest && managerOk m ≡ true) (len
   commit-closes =
       let up : RisingOf (waitedAt j i m) = rw (changed, epochs-committed i ts) rise in record {
       room = close-room; clear = changed-tidy; rising = up; is = commit-is;
-      still = λ h. settled-still (waitedAt j i m) up changed-tidy (simp length-set len) close-room
+      still = λ h. settled-still (waitedAt j i m) up changed-tidy (simp length-set (o .len)) close-room
         (ap lead put ∙ lead-set (m .clock) ts j (waitingTxn i) (manager-facts m ok .writers) h) ∙ commit-is }
 
   -- ---- roll back
@@ -127,8 +140,8 @@ module _ (m : Manager) (rest : Bool) (sound : rest && managerOk m ≡ true) (len
             (let l = ap length cut-is in let k = length-keepIf (λ (t : RwTxn). not (opens i t)) ts in
             let u = used in let r = close-room in omega arith) in
       let clear : Tidy (withWriters (cut j (suc j) ts) m) = ap (pad 32 noRw) (sym left) in
-      let up : RisingOf (withWriters (cut j (suc j) ts) m) = rw (left, cut-is) (rises-keepIf (λ (t : RwTxn). t .epoch) (λ t. not (opens i t)) (m .clock .lce)
-            (m .clock .ec) ts rise) in record {
+      let up : RisingOf (withWriters (cut j (suc j) ts) m) = rw (left, cut-is) (rises-keepIf
+            (λ (t : RwTxn). t .epoch) (λ t. not (opens i t)) (m .clock .lce) (m .clock .ec) ts rise) in record {
       room = few; clear = clear; rising = up; is = rollback-is;
       still = λ h. settled-still (withWriters (cut j (suc j) ts) m) up clear
         (length-pad 32 noRw (cut j (suc j) ts) few) few

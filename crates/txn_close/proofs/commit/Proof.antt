@@ -7,10 +7,9 @@ use Rattle.rules.specs.Manager.{writersOf}
 use Rattle.rules.specs.Close.{settled}
 use Rattle.rules.specs.Calls.{closeAnswer}
 use Rattle.rules.specs.declared.Manager.{Manager}
-use Rattle.txn_find.proofs.Laws.Places.{manager-writers-32, manager-writers-31}
 use Rattle.txn_find.proofs.Laws.Find.{no-writer}
 use Rattle.txn_close.specs.Close.{closedTo}
-use Rattle.txn_close.proofs.Laws.Close.{close-place, close-room, close-answers, commit-closes}
+use Rattle.txn_close.proofs.Laws.Close.{opened, close-place, close-room, close-answers, commit-closes}
 use borrow.Author.Needs.{needs}
 use Rattle.txn_close.proofs.commit.Statement.{statement}
 use Rattle.txn_close.proofs.commit.Tie as tie
@@ -48,12 +47,11 @@ returns-2 c =
 
 closed-waiting-requires : tie.Need-closed-waiting-requires
 closed-waiting-requires c κs =
-    let f = c .before .before .before in let p = f .before .before in let s = p .before in let m = s .args .m in
-    let sound = sym (p .is-sound .ensures) ∙ not-false _ (f .before .if1 .left) in
-    let len = manager-writers-32 m _ (s .good .0) in let each = manager-writers-31 m _ (s .good .0) in
-    let at = sym (f .find-writer .ensures) ∙ c .before .j .given .1 in
-    let l = close-place m (s .args .rest) sound len each (s .args .i) _ at in
-    let r = close-room m (s .args .rest) sound len each (s .args .i) _ at in omega arith
+    let k = c .before in let f = k .before .before in let p = f .before .before in let s = p .before in
+    let o = opened (s .args .m) (s .args .rest) _ (s .good .0)
+      (sym (p .is-sound .ensures) ∙ not-false _ (f .before .if1 .left))
+      (sym (f .find-writer .ensures) ∙ k .j .given .1) in
+    let l = close-place o in let r = close-room o in omega arith
 
 answered-requires : tie.Need-answered-requires
 answered-requires c κs = search needs
@@ -61,21 +59,20 @@ answered-requires c κs = search needs
 returns-3 : tie.Need-returns-3
 returns-3 c =
     let x = c .before .before in let k = x .before .before in let f = k .before .before in
-    let p = f .before .before in let s = p .before in let m = s .args .m in
-    let sound = sym (p .is-sound .ensures) ∙ not-false _ (f .before .if1 .left) in
-    let len = manager-writers-32 m _ (s .good .0) in let each = manager-writers-31 m _ (s .good .0) in
-    let at = sym (f .find-writer .ensures) ∙ k .j .given .1 in
-    let w = commit-closes m (s .args .rest) sound len each (s .args .i) _ at in
-    c .answered .ensures ∙ ap closedTo (x .closed-waiting .ensures ∙ w .still (c .before .if2 .taken))
-      ∙ close-answers m (s .args .rest) sound len each (s .args .i) _ at _
+    let p = f .before .before in let s = p .before in
+    let o = opened (s .args .m) (s .args .rest) _ (s .good .0)
+      (sym (p .is-sound .ensures) ∙ not-false _ (f .before .if1 .left))
+      (sym (f .find-writer .ensures) ∙ k .j .given .1) in
+    c .answered .ensures ∙ ap closedTo (x .closed-waiting .ensures ∙ commit-closes o .still (c .before .if2 .taken))
+      ∙ close-answers o _
 
 settled-requires : tie.Need-settled-requires
 settled-requires c κs =
     let x = c .before in let k = x .before .before in let f = k .before .before in
-    let p = f .before .before in let s = p .before in let m = s .args .m in
-    let sound = sym (p .is-sound .ensures) ∙ not-false _ (f .before .if1 .left) in
-    let w = commit-closes m (s .args .rest) sound (manager-writers-32 m _ (s .good .0))
-      (manager-writers-31 m _ (s .good .0)) (s .args .i) _ (sym (f .find-writer .ensures) ∙ k .j .given .1) in
+    let p = f .before .before in let s = p .before in
+    let w = commit-closes (opened (s .args .m) (s .args .rest) _ (s .good .0)
+      (sym (p .is-sound .ensures) ∙ not-false _ (f .before .if1 .left))
+      (sym (f .find-writer .ensures) ∙ k .j .given .1)) in
     rw (x .closed-waiting .ensures) (w .room, (w .clear, w .rising))
 
 answered-requires-2 : tie.Need-answered-requires-2
@@ -84,14 +81,13 @@ answered-requires-2 c κs = search needs
 returns-4 : tie.Need-returns-4
 returns-4 c =
     let x = c .before .before .before in let k = x .before .before in let f = k .before .before in
-    let p = f .before .before in let s = p .before in let m = s .args .m in
-    let sound = sym (p .is-sound .ensures) ∙ not-false _ (f .before .if1 .left) in
-    let len = manager-writers-32 m _ (s .good .0) in let each = manager-writers-31 m _ (s .good .0) in
-    let at = sym (f .find-writer .ensures) ∙ k .j .given .1 in
-    let w = commit-closes m (s .args .rest) sound len each (s .args .i) _ at in
+    let p = f .before .before in let s = p .before in
+    let o = opened (s .args .m) (s .args .rest) _ (s .good .0)
+      (sym (p .is-sound .ensures) ∙ not-false _ (f .before .if1 .left))
+      (sym (f .find-writer .ensures) ∙ k .j .given .1) in
     c .answered2 .ensures ∙ ap closedTo (c .before .settled .ensures
-        ∙ ap (λ (y : Manager). settled (writersOf y) y) (x .closed-waiting .ensures) ∙ w .is)
-      ∙ close-answers m (s .args .rest) sound len each (s .args .i) _ at _
+        ∙ ap (λ (y : Manager). settled (writersOf y) y) (x .closed-waiting .ensures) ∙ commit-closes o .is)
+      ∙ close-answers o _
 
 pub commit-spec : {M : Type 1} → statement M
 commit-spec =

@@ -6,10 +6,10 @@ use Rattle.rules.specs.Manager.{writersOf}
 use Rattle.rules.specs.Close.{settled}
 use Rattle.rules.specs.Calls.{closeAnswer}
 use Rattle.rules.specs.declared.Manager.{Manager}
-use Rattle.txn_find.proofs.Laws.Places.{manager-writers-32, manager-writers-31}
 use Rattle.txn_find.proofs.Laws.Find.{no-writer}
 use Rattle.txn_close.specs.Close.{closedTo}
-use Rattle.txn_close.proofs.Laws.Close.{close-place, close-room, close-tidy, close-answers, rollback-closes}
+use Rattle.txn_close.proofs.Laws.Close.{opened, close-place, close-room, close-tidy}
+use Rattle.txn_close.proofs.Laws.Close.{close-answers, rollback-closes}
 use borrow.Author.Needs.{needs}
 use Rattle.txn_close.proofs.roll_back.Statement.{statement}
 use Rattle.txn_close.proofs.roll_back.Tie as tie
@@ -47,13 +47,11 @@ returns-2 c =
 
 closed-dropped-requires : tie.Need-closed-dropped-requires
 closed-dropped-requires c κs =
-    let f = c .before .before .before in let p = f .before .before in let s = p .before in let m = s .args .m in
-    let sound = sym (p .is-sound .ensures) ∙ not-false _ (f .before .if1 .left) in
-    let len = manager-writers-32 m _ (s .good .0) in let each = manager-writers-31 m _ (s .good .0) in
-    let at = sym (f .find-writer .ensures) ∙ c .before .j .given .1 in
-    ((close-place m (s .args .rest) sound len each (s .args .i) _ at,
-      close-room m (s .args .rest) sound len each (s .args .i) _ at),
-      close-tidy m (s .args .rest) sound len each (s .args .i) _ at)
+    let k = c .before in let f = k .before .before in let p = f .before .before in let s = p .before in
+    let o = opened (s .args .m) (s .args .rest) _ (s .good .0)
+      (sym (p .is-sound .ensures) ∙ not-false _ (f .before .if1 .left))
+      (sym (f .find-writer .ensures) ∙ k .j .given .1) in
+    ((close-place o, close-room o), close-tidy o)
 
 answered-requires : tie.Need-answered-requires
 answered-requires c κs = search needs
@@ -61,21 +59,20 @@ answered-requires c κs = search needs
 returns-3 : tie.Need-returns-3
 returns-3 c =
     let x = c .before .before in let k = x .before .before in let f = k .before .before in
-    let p = f .before .before in let s = p .before in let m = s .args .m in
-    let sound = sym (p .is-sound .ensures) ∙ not-false _ (f .before .if1 .left) in
-    let len = manager-writers-32 m _ (s .good .0) in let each = manager-writers-31 m _ (s .good .0) in
-    let at = sym (f .find-writer .ensures) ∙ k .j .given .1 in
-    let w = rollback-closes m (s .args .rest) sound len each (s .args .i) _ at in
-    c .answered .ensures ∙ ap closedTo (x .closed-dropped .ensures ∙ w .still (c .before .if2 .taken))
-      ∙ close-answers m (s .args .rest) sound len each (s .args .i) _ at _
+    let p = f .before .before in let s = p .before in
+    let o = opened (s .args .m) (s .args .rest) _ (s .good .0)
+      (sym (p .is-sound .ensures) ∙ not-false _ (f .before .if1 .left))
+      (sym (f .find-writer .ensures) ∙ k .j .given .1) in
+    c .answered .ensures ∙ ap closedTo (x .closed-dropped .ensures ∙ rollback-closes o .still (c .before .if2 .taken))
+      ∙ close-answers o _
 
 settled-requires : tie.Need-settled-requires
 settled-requires c κs =
     let x = c .before in let k = x .before .before in let f = k .before .before in
-    let p = f .before .before in let s = p .before in let m = s .args .m in
-    let sound = sym (p .is-sound .ensures) ∙ not-false _ (f .before .if1 .left) in
-    let w = rollback-closes m (s .args .rest) sound (manager-writers-32 m _ (s .good .0))
-      (manager-writers-31 m _ (s .good .0)) (s .args .i) _ (sym (f .find-writer .ensures) ∙ k .j .given .1) in
+    let p = f .before .before in let s = p .before in
+    let w = rollback-closes (opened (s .args .m) (s .args .rest) _ (s .good .0)
+      (sym (p .is-sound .ensures) ∙ not-false _ (f .before .if1 .left))
+      (sym (f .find-writer .ensures) ∙ k .j .given .1)) in
     rw (x .closed-dropped .ensures) (w .room, (w .clear, w .rising))
 
 answered-requires-2 : tie.Need-answered-requires-2
@@ -84,14 +81,13 @@ answered-requires-2 c κs = search needs
 returns-4 : tie.Need-returns-4
 returns-4 c =
     let x = c .before .before .before in let k = x .before .before in let f = k .before .before in
-    let p = f .before .before in let s = p .before in let m = s .args .m in
-    let sound = sym (p .is-sound .ensures) ∙ not-false _ (f .before .if1 .left) in
-    let len = manager-writers-32 m _ (s .good .0) in let each = manager-writers-31 m _ (s .good .0) in
-    let at = sym (f .find-writer .ensures) ∙ k .j .given .1 in
-    let w = rollback-closes m (s .args .rest) sound len each (s .args .i) _ at in
+    let p = f .before .before in let s = p .before in
+    let o = opened (s .args .m) (s .args .rest) _ (s .good .0)
+      (sym (p .is-sound .ensures) ∙ not-false _ (f .before .if1 .left))
+      (sym (f .find-writer .ensures) ∙ k .j .given .1) in
     c .answered2 .ensures ∙ ap closedTo (c .before .settled .ensures
-        ∙ ap (λ (y : Manager). settled (writersOf y) y) (x .closed-dropped .ensures) ∙ w .is)
-      ∙ close-answers m (s .args .rest) sound len each (s .args .i) _ at _
+        ∙ ap (λ (y : Manager). settled (writersOf y) y) (x .closed-dropped .ensures) ∙ rollback-closes o .is)
+      ∙ close-answers o _
 
 pub roll-back-spec : {M : Type 1} → statement M
 roll-back-spec =
