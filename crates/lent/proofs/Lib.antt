@@ -12,6 +12,7 @@ pub mod Look
 pub mod Picks
 pub mod Saved
 pub mod Saves
+pub mod Saving
 pub mod Scan
 pub mod Shape
 pub mod Shown

@@ -4,7 +4,7 @@
 use mathlib.Core.Path.{_≡_, refl, sym, _∙_, ap, subst}
 use mathlib.Core.Bool.{Bool, true, false}
 use Prim.Native.Nat.{ℕ, zero, suc, _<_, _+_, _*_, _-_, _^_}
-use native.Mathlib.Nat.{add-zero, add-suc}
+use native.Mathlib.Numerals.{add-one}
 use native.Mathlib.Omega.{arith}
 use mathlib.Core.List.{[], _∷_, List}
 use lib.ListN.{length, getD, set, length-set}
@@ -83,9 +83,6 @@ stayed = (stay-none-slice (0 ∷ []) tt (plain (λ _. T.the-row)) yes, tt)
 holds : (t : Bool) → Holds t → t ≡ true
 holds true _ = refl
 holds false a = absurd a
-
-one-more : (i : ℕ) → i + 1 ≡ suc i
-one-more i = add-suc i zero ∙ ap suc (add-zero i)
 
 -- 576 entries by value
 abbrev R : RattleType
@@ -237,7 +234,7 @@ module _ {M : Type 1} (𝓤 : URA M) (H : Heap 𝓤) (A : Atoms 𝓤) (W : Given
           assigns-last ! (bin ! (load ! (from ! (stop !)) (look ! 16 refl)) (lit ! tt) (record { fits = next-fits
               })) (from ! (stop !)) (store ! 16 refl (tt, record { fits = next-fits })) $
           forget ! 4 refl $ forget ! 6 refl $ forget ! 8 refl $ forget ! 10 refl $ forget ! 12 refl $ rewrite ! 16
-              (λ (j : ℕ). ‵ (fat fullShare (tyInt w64) l₃ 0 (vint w64 j))) (one-more i) refl $
+              (λ (j : ℕ). ‵ (fat fullShare (tyInt w64) l₃ 0 (vint w64 j))) (add-one i) refl $
           goes-on)))
         where
           goes-on : Sq W (Turned (suc i)) (prop (Below 𝓤 H A _<_ Inv (suc k)))

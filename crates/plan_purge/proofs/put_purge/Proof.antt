@@ -4,7 +4,8 @@ use native.Mathlib.Omega.{arith}
 use contract.Running.{givenOf, tables, tablesOf}
 use denote.Triple.Spec.{tripleOf}
 use denote.Triple.Table.{entered, cited}
-use Rattle.lent.proofs.Saves.{PutEntry, Place, Area, meets}
+use Rattle.lent.proofs.Saves.{PutEntry, Place, Area}
+use Rattle.lent.proofs.Saving.{meets}
 use Rattle.lent.proofs.put_entry.Symbol as put-entry
 use Rattle.lent.proofs.put_entry.Met as put-entry-thm
 use Rattle.plan_purge.specs.Purge.{placeOf, newOf}

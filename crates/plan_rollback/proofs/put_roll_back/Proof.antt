@@ -6,7 +6,8 @@ use denote.Triple.Spec.{tripleOf}
 use denote.Triple.Table.{entered, cited}
 use Rattle.lent.proofs.put_entry.Symbol as put-entry
 use Rattle.lent.proofs.put_entry.Met as put-entry-thm
-use Rattle.lent.proofs.Saves.{PutEntry, Place, Area, meets}
+use Rattle.lent.proofs.Saves.{PutEntry, Place, Area}
+use Rattle.lent.proofs.Saving.{meets}
 use Rattle.plan_rollback.specs.RollBack.{placeOf, entriesAfter}
 use Rattle.plan_rollback.proofs.Types.{rollBack}
 use Rattle.plan_rollback.proofs.place_of.Symbol as place
