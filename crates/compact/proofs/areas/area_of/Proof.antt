@@ -2,24 +2,18 @@
 -- the others are blank. The measure is how many are left.
 -- Assumes nothing.
 use mathlib.Core.Path.{_≡_, refl}
-use mathlib.Core.List.{_++_}
 use Prim.Native.Nat.{_+_, _-_, _≤_}
-use native.Mathlib.Numerals.{add-one}
 use native.Mathlib.Omega.{arith}
-use lib.ListN.{length, take, drop, length-drop}
-use lib.Seq.{getD-drop}
+use lib.ListN.{length}
 use borrow.Author.Needs.{needs}
 use Rattle.partition.proofs.Laws.Places.{table-576}
-use Rattle.lent.specs.Entries.{none}
-use Rattle.compact.specs.Areas.{areaAt}
-use Rattle.compact.proofs.Laws.Areas.{put-next, copied-all, base-fits, blank, blank-64}
+use Rattle.compact.proofs.Laws.Areas.{base-fits, blank, readTo, read-next, area-read}
 use Rattle.compact.proofs.areas.area_of.Statement.{statement}
 use Rattle.compact.proofs.areas.area_of.Tie as tie
 
 abbrev Inv-loop : tie.InvT-loop
 Inv-loop q t base at₀ i₀ at i =
-    (i ≤ 64) × (base + 64 ≤ 576) × (length (t .at) ≡ 576)
-    × (at ≡ take i (drop base (t .at)) ++ drop i blank)
+    (i ≤ 64) × (base + 64 ≤ 576) × (length (t .at) ≡ 576) × (at ≡ readTo (t .at) base i)
 
 abbrev μ-loop : tie.MeasureT-loop
 μ-loop q t base at₀ i₀ at i = 64 - i
@@ -30,7 +24,8 @@ entry-base-requires c κs = search needs
 loop-holds : tie.Need-loop-holds Inv-loop μ-loop
 unfolding blank
 loop-holds c = let s = c .before in
-    (omega arith, rw (c .entry-base .ensures) (base-fits (s .args .q .area)), table-576 (s .args .t1) _ (s .good .0), refl)
+    (omega arith, rw (c .entry-base .ensures) (base-fits (s .args .q .area)), table-576 (s .args .t1) _ (s .good .0),
+      refl)
 
 add-at : tie.Need-add-at Inv-loop μ-loop
 add-at c = search needs
@@ -56,17 +51,14 @@ loop-less c = search needs
 loop-again : tie.Need-loop-again Inv-loop μ-loop
 loop-again c =
     let l = c .before .before .loop in let b = c .before .before .before .entry-base .result in
-    let xs = c .before .before .before .before .args .t1 .at in let d = length-drop b xs in let n = blank-64 in
     let r = l .inv .1 in let m = l .inv .2 in
-    (omega arith, l .inv .1, l .inv .2, rw (l .inv .3, add-one (l .i), ← getD-drop b xs (l .i) none)
-      (put-next (drop b xs) blank (l .i) none (omega arith) (omega arith)))
+    (omega arith, r, m, rw (l .inv .3)
+      (read-next (c .before .before .before .before .args .t1 .at) b (l .i) (omega arith) (omega arith)))
 
 returns : tie.Need-returns Inv-loop μ-loop
-unfolding areaAt
-returns c =
-    let l = c .before .loop in let b = c .before .before .entry-base in
-    let xs = c .before .before .before .args .t1 .at in let e : l .i ≡ 64 = omega arith in
-    rw (l .inv .3, e, copied-all (drop (b .result) xs) blank 64 blank-64, b .ensures)
+returns c = let l = c .before .loop in let s = c .before .before .before in
+    rw (l .inv .3) (area-read (s .args .t1 .at) (s .args .q) _ (l .i) (c .before .before .entry-base .ensures)
+      (omega arith))
 
 pub area-of-spec : {M : Type 1} → statement M
 area-of-spec =
