@@ -62,14 +62,23 @@ rolledBelow i (suc n) w = rolledAt i n (rolledBelow i n w)
 
 -- ---- rows
 
-unfoldable pub rowsRolledAt : ℕ → ℕ → Rolled → List ℕ → List ℕ
-rowsRolledAt i p w rows =
-    cond (concerns i p w)
-    (rowsCopied (areaIn p w) (planIn i p w) (baseOf rowsMax (placeIn p w .area))
-      (baseOf rowsMax (w .partitions .spare)) rows)
+-- the spare area after a partition that lies in `area` and has the entries of a
+unfoldable pub spareAfter : ℕ → Area → ℕ → ℕ → ℕ
+spareAfter i a area spare = cond (hasEpoch i (spansIn a)) area spare
+
+unfoldable pub rowsRolledAt : ℕ → Area → ℕ → ℕ → List ℕ → List ℕ
+rowsRolledAt i a area spare rows =
+    cond (hasEpoch i (spansIn a))
+    (rowsCopied a (planOf (rollEpochs i (spansIn a))) (baseOf rowsMax area) (baseOf rowsMax spare) rows)
     rows
 
--- the partitions below n, each copied when those below it are rolled back
+-- the partitions below n: the spare area after them, and the rows. What is copied of each follows from the entries and
+-- places before the roll back
+unfoldable pub spareBelow : ℕ → ℕ → Rolled → ℕ
+spareBelow i zero w = w .partitions .spare
+spareBelow i (suc n) w = spareAfter i (areaIn n w) (placeIn n w .area) (spareBelow i n w)
+
 unfoldable pub rowsRolledBelow : ℕ → ℕ → Rolled → List ℕ → List ℕ
 rowsRolledBelow i zero w rows = rows
-rowsRolledBelow i (suc n) w rows = rowsRolledAt i n (rolledBelow i n w) (rowsRolledBelow i n w rows)
+rowsRolledBelow i (suc n) w rows =
+    rowsRolledAt i (areaIn n w) (placeIn n w .area) (spareBelow i n w) (rowsRolledBelow i n w rows)

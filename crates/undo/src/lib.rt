@@ -2,6 +2,7 @@
 // transaction (01: load) is rewritten into the spare area, and its old area is the spare of the next one.
 use compact::areas;
 use lent::Table;
+use rules::Entry;
 use rules::Partitions;
 use visible::Area;
 use visible::places::in_use;
@@ -11,7 +12,7 @@ ghost use Prim.Native.Nat.{_+_, _≤_, _<_};
 ghost use Rattle.lists.specs.Lists.{over};
 ghost use Rattle.rules.specs.Limits.{partitionsMax};
 ghost use Rattle.visible.specs.Bare.{entriesIn};
-ghost use Rattle.undo.specs.Rolled.{rolledAt, rolledBelow, rolledOf, rowsRolledAt, rowsRolledBelow};
+ghost use Rattle.undo.specs.Rolled.{rolledBelow, rolledOf, spareAfter, rowsRolledAt, rowsRolledBelow};
 
 // Rules' entriesMax and partitionsMax.
 const ENTRIES: usize = 64;
@@ -23,82 +24,87 @@ pub struct Rolled {
     pub partitions: Partitions,
 }
 
-// The entries of a in use, from index base on.
-fn put_area(t: Table, base: usize, a: Area) -> Table
-    requires { ⌜ base + 64 ≤ 576 ⌝ }
-    ensures { λ r. ⌜ r ≡ record { at = over base (entriesIn a) (t .at) } ⌝ }
-{
-    let n = in_use(a.count, ENTRIES);
-    let mut at = t.at;
-    let mut k: usize = 0;
-    while k < n {
-        at[base + k] = a.at[k];
-        k += 1;
-    }
-    Table { at: at }
-}
-
-// Partition p, where it has an entry of transaction i.
-fn roll_one(w: Rolled, p: usize, i: u64) -> Rolled
-    requires { ⌜ p < partitionsMax ⌝ }
-    ensures { λ r. ⌜ r ≡ rolledAt i p w ⌝ }
-{
-    let t = w.table;
-    let ps = w.partitions;
-    let q = ps.at[p];
-    let a = areas::area_of(t, q);
-    if !rewrite_plan::has_epoch(a, i) {
-        return w;
-    }
-    let plan = rewrite_plan::roll_plan(a, i);
-    let done = rewrite::keep::rewritten(a, plan);
-    let base = areas::entry_base(ps.spare);
-    let kept = done.area;
-    let table = put_area(t, base, kept);
-    let partitions = areas::moved(ps, p, done);
-    Rolled { table: table, partitions: partitions }
-}
-
-// The entries and places after the roll back of transaction i.
+// The entries and places after the roll back of transaction i. The entries are read and written in this function
+// alone: each call that takes all of them copies them.
 pub fn roll(t: Table, ps: Partitions, i: u64) -> Rolled
     ensures { λ r. ⌜ r ≡ rolledBelow i partitionsMax (rolledOf t ps) ⌝ }
 {
-    let mut w = Rolled { table: t, partitions: ps };
+    let mut at = t.at;
+    let mut places = ps;
     let mut p: usize = 0;
-    while p < PARTITIONS {
-        w = roll_one(w, p, i);
+    'each: while p < PARTITIONS {
+        let q = places.at[p];
+        let from = areas::entry_base(q.area);
+        let mut old = [Entry {
+            epoch: 0,
+            end: 0,
+            mark: 0,
+        }; ENTRIES];
+        let mut k: usize = 0;
+        'read: while k < ENTRIES {
+            old[k] = at[from + k];
+            k += 1;
+        }
+        let a = Area { at: old, count: q.entries };
+        if !rewrite_plan::has_epoch(a, i) {
+            p += 1;
+            continue;
+        }
+        let plan = rewrite_plan::roll_plan(a, i);
+        let done = rewrite::keep::rewritten(a, plan);
+        let kept = done.area;
+        let n = in_use(kept.count, ENTRIES);
+        let to = areas::entry_base(places.spare);
+        let mut j: usize = 0;
+        'write: while j < n {
+            at[to + j] = kept.at[j];
+            j += 1;
+        }
+        places = areas::moved(places, p, done);
         p += 1;
     }
-    w
+    let table = Table { at: at };
+    Rolled { table: table, partitions: places }
 }
 
-// The rows of partition p that stay, copied to the spare area.
-fn copy_one(rows: &mut [u64], w: Rolled, p: usize, i: u64)
-    requires { ⌜ p < partitionsMax ⌝ }
-    ensures { λ _. ⌜ now (rows .exit) ≡ rowsRolledAt i p w (now (rows .entry)) ⌝ }
+// The rows of a partition that stay, copied to the spare area where it has an entry of transaction i: a has its entries,
+// and its rows lie in `area`, which is then the spare.
+fn copy_one(rows: &mut [u64], a: Area, area: usize, spare: usize, i: u64) -> usize
+    ensures spare { λ r. ⌜ r ≡ spareAfter i a area spare ⌝ }
+    ensures rows { λ _. ⌜ now (rows .exit) ≡ rowsRolledAt i a area spare (now (rows .entry)) ⌝ }
 {
-    let t = w.table;
-    let ps = w.partitions;
-    let q = ps.at[p];
-    let a = areas::area_of(t, q);
-    if !rewrite_plan::has_epoch(a, i) {
-        return;
+    if rewrite_plan::has_epoch(a, i) {
+        let plan = rewrite_plan::roll_plan(a, i);
+        let from = areas::row_base(area);
+        let to = areas::row_base(spare);
+        rewrite::copying::copy_kept(rows, a, plan, from, to);
+        return area;
     }
-    let plan = rewrite_plan::roll_plan(a, i);
-    let from = areas::row_base(q.area);
-    let to = areas::row_base(ps.spare);
-    rewrite::copying::copy_kept(rows, a, plan, from, to);
+    spare
 }
 
-// The rows after the roll back of transaction i, where t and ps are the entries and places before it.
+// The rows after the roll back of transaction i, where t and ps are the entries and places before it. A partition's rows
+// lie where they lay until they are copied.
 pub fn roll_rows(rows: &mut [u64], t: Table, ps: Partitions, i: u64)
     ensures { λ _. ⌜ now (rows .exit) ≡ rowsRolledBelow i partitionsMax (rolledOf t ps) (now (rows .entry)) ⌝ }
 {
-    let mut w = Rolled { table: t, partitions: ps };
+    let mut spare = ps.spare;
     let mut p: usize = 0;
-    while p < PARTITIONS {
-        copy_one(rows, w, p, i);
-        w = roll_one(w, p, i);
+    'each: while p < PARTITIONS {
+        let q = ps.at[p];
+        let from = areas::entry_base(q.area);
+        let mut old = [Entry {
+            epoch: 0,
+            end: 0,
+            mark: 0,
+        }; ENTRIES];
+        let mut k: usize = 0;
+        'read: while k < ENTRIES {
+            old[k] = t.at[from + k];
+            k += 1;
+        }
+        let a = Area { at: old, count: q.entries };
+        spare = copy_one(rows, a, q.area, spare, i);
         p += 1;
     }
 }

@@ -70,7 +70,7 @@ module _ (s : State) (es : List Entry) (rs : List ℕ) (ok : StoreOk (storeOf s 
       ≡ withManager (rolledBackManager i (s .manager)) after
   carried-left = λ j. record {
     state = record { manager = rolledBackManager i (s .manager); partitions = rolled-is j .partitions };
-    rows = rows-below i partitionsMax (storeOf s rs es) ok (omega arith) j; entries = entries-saved j }
+    rows = rows-below i (storeOf s rs es) ok partitionsMax (omega arith) j; entries = entries-saved j }
 
 -- ---- a refused call writes no word
 

@@ -1,6 +1,6 @@
 -- Entries, places and rows after a roll back are those of rules' rolledBackBelow. Definitions: specs/Rolled.antt.
--- In order: a loop that copies; a store's entries and places; one partition of a sound store, its entries and
--- places, its rows; the partitions below n.
+-- In order: a loop that copies, and one partition by it; a store's entries and places; one partition of a sound store,
+-- its entries and places, its rows; the partitions below n, their entries and places, their rows.
 -- Assumes nothing.
 use mathlib.Core.Path.{_≡_, refl, sym, ap, _∙_}
 use mathlib.Core.Bool.{true}
@@ -8,36 +8,53 @@ use mathlib.Core.List.{List, append-assoc}
 use Prim.Native.Nat.{ℕ, zero, suc, _+_, _*_, _≤_, _<_}
 use native.Mathlib.Omega.{arith}
 use lib.ListN.{length, take, drop}
-use lib.Seq.{paste, length-take-le, take-take}
+use lib.Seq.{paste, length-take-le, take-take, getD-set-other}
 use lib.Dec.{ltb}
 use borrow.Author.Tests.{lt-ltb, le-leb, ltb-true, ltb-false}
 use Rattle.lists.specs.Lists.{over}
 use Rattle.lists.proofs.Laws.All.{All}
 use Rattle.lists.proofs.Laws.Bools.{split}
 use Rattle.rules.specs.Limits.{partitionsMax, areasMax, rowsMax, entriesMax}
-use Rattle.rules.specs.Span.{Span, spans, wordsOf}
+use Rattle.rules.specs.Span.{Span, spans, entriesOf, wordsOf}
 use Rattle.rules.specs.Rewrite.{hasEpoch, rolledBack}
-use Rattle.rules.specs.Store.{Store, managerOf, partitionAt, entriesAt, rowsAt, spansAt, laid, laidInSpare}
+use Rattle.rules.specs.Store.{Store, noPartition, managerOf, partitionAt, entriesAt, rowsAt, spansAt, laid, laidInSpare}
 use Rattle.rules.specs.Store.{rolledBackAt, rolledBackBelow}
+use Rattle.rules.specs.declared.Entry.{Entry}
+use Rattle.rules.specs.declared.Partitions.{Partitions}
 use Rattle.rules.proofs.Laws.SpansOk.{MarkOk}
 use Rattle.rules.proofs.Laws.SpansTest.{EntriesOk, entries-ok}
 use Rattle.rules.proofs.Laws.WellFormed.{StoreOk}
 use Rattle.rules.proofs.Laws.Store.{rolledBack-below}
 use Rattle.visible.specs.Bare.{entriesIn}
-use Rattle.rewrite.specs.Kept.{asRewritten}
-use Rattle.rewrite.specs.Copied.{areasApart, rowsCopied}
+use Rattle.visible.specs.declared.Area.{Area}
+use Rattle.rewrite_plan.specs.Plan.{spansIn, planOf, rollEpochs}
+use Rattle.rewrite_plan.proofs.Laws.Area.{Uses}
+use Rattle.rewrite.specs.Kept.{asRewritten, rewrittenOf}
+use Rattle.rewrite.specs.Copied.{areasApart, copyOk, rowsCopied}
+use Rattle.rewrite.specs.declared.Rewritten.{Rewritten}
 use Rattle.rewrite.proofs.Laws.Copied.{apart-before, apart-after}
 use Rattle.rewrite.proofs.Laws.Store.{Dated, dated, area-entries, has-same, rolled-area, rolled-copied}
-use Rattle.compact.specs.Areas.{areaAt, movedTo}
+use Rattle.compact.specs.Areas.{baseOf, areaAt, movedTo}
 use Rattle.undo.specs.Rolled.{rolledOf, areaIn, planIn, keptIn, concerns, rewrittenAt, rolledAt}
-use Rattle.undo.specs.Rolled.{rolledBelow, rowsRolledAt, rowsRolledBelow}
+use Rattle.undo.specs.Rolled.{rolledBelow, spareAfter, rowsRolledAt, spareBelow, rowsRolledBelow}
 use Rattle.undo.specs.declared.Rolled.{Rolled}
 
 -- a copy of the first n of vs
-pub paste-over : {A : Type 0} (xs : List A) (at : ℕ) (vs : List A) (n : ℕ) → n ≤ length vs
+paste-over : {A : Type 0} (xs : List A) (at : ℕ) (vs : List A) (n : ℕ) → n ≤ length vs
     → paste xs at vs n ≡ over at (take n vs) xs
 paste-over xs at vs n h =
     rw (length-take-le n vs h) (append-assoc (take at xs) (take n vs) (drop (at + n) xs))
+
+-- partition p, whose area is a, where what is kept of it is put over the spare area
+pub rolled-put : (i p : ℕ) (w : Rolled) (a : Area) → a ≡ areaIn p w → hasEpoch i (spansIn a) ≡ true
+    → (r : Rewritten) → r ≡ rewrittenOf a (planOf (rollEpochs i (spansIn a))) → (to n : ℕ)
+    → to ≡ baseOf entriesMax (w .partitions .spare) → Uses (r .area) n
+    → (es : List Entry) → es ≡ paste (w .table .at) to (r .area .at) n
+    → (ps : Partitions) → ps ≡ movedTo p (r .rows) (r .area .count) (w .partitions)
+    → rolledOf (record { at = es }) ps ≡ rolledAt i p w
+unfolding rolledAt rewrittenAt
+rolled-put i p w a at t r e to n b u es h ps m = let f = u .few in let l = u .long in
+    rw (h, m, paste-over (w .table .at) to (r .area .at) n (omega arith), u .first, b, e, ← at, t)
 
 -- the entries and places of a store
 abbrev pub asRolled : Store → Rolled
@@ -115,14 +132,15 @@ module _ (st : Store) (ok : StoreOk st) (p : ℕ) (h : p < partitionsMax) where
         ∙ ap (λ (ss : List Span). over (rowsMax * st .state .partitions .spare) (wordsOf (rolledBack i ss))
           (st .rows)) spans-are
 
-    pub rows-step : rowsRolledAt i p (asRolled st) (st .rows) ≡ rolledBackAt i p st .rows
+    pub rows-step : rowsRolledAt i (areaIn p (asRolled st)) (partitionAt p st .area) (st .state .partitions .spare)
+        (st .rows) ≡ rolledBackAt i p st .rows
     unfolding rowsRolledAt rolledBackAt laidInSpare laid
     rows-step = split (hasEpoch i (spansAt p st))
         (λ t. rw (has-is ∙ t, t, lt-ltb (partitionAt p st .area) areasMax (ok .areas .inside p h),
           lt-ltb (st .state .partitions .spare) areasMax (ok .areas .spare-inside)) copied-is)
         (λ f. rw (has-is ∙ f, f))
 
--- ---- the partitions below n
+-- ---- the entries and places of the partitions below n
 
 pub rolled-below : (i n : ℕ) (st : Store) → StoreOk st → n ≤ partitionsMax
     → rolledBelow i n (asRolled st) ≡ asRolled (rolledBackBelow i n st)
@@ -131,10 +149,47 @@ rolled-below i zero st ok h = refl
 rolled-below i (suc n) st ok h = ap (rolledAt i n) (rolled-below i n st ok (omega arith))
     ∙ rolled-step (rolledBackBelow i n st) (rolledBack-below i n st ok (omega arith) .sound) n (omega arith) i
 
-pub rows-below : (i n : ℕ) (st : Store) → StoreOk st → n ≤ partitionsMax
-    → rowsRolledBelow i n (asRolled st) (st .rows) ≡ rolledBackBelow i n st .rows
-unfolding rowsRolledBelow rolledBackBelow
-rows-below i zero st ok h = refl
-rows-below i (suc n) st ok h =
-    rw (rolled-below i n st ok (omega arith), rows-below i n st ok (omega arith))
-      (rows-step (rolledBackBelow i n st) (rolledBack-below i n st ok (omega arith) .sound) n (omega arith) i)
+-- ---- the rows of the partitions below n
+
+-- what is copied of an area follows from its entries in use
+rows-same : (i : ℕ) (a b : Area) → entriesIn a ≡ entriesIn b → (area spare : ℕ) (rows : List ℕ)
+    → rowsRolledAt i a area spare rows ≡ rowsRolledAt i b area spare rows
+unfolding rowsRolledAt rowsCopied copyOk
+rows-same i a b e area spare rows = rw e
+
+-- a partition lies where it lay until it is rolled back
+place-kept : (i n : ℕ) (st : Store) (p : ℕ) → n ≤ p → partitionAt p (rolledBackBelow i n st) ≡ partitionAt p st
+unfolding rolledBackBelow rolledBackAt laidInSpare laid
+place-kept i zero st p h = refl
+place-kept i (suc n) st p h = let s = rolledBackBelow i n st in split (hasEpoch i (spansAt n s))
+    (λ t. rw t (getD-set-other (s .state .partitions .at) n p _ noPartition (λ e. omega arith)
+      ∙ place-kept i n st p (omega arith)))
+    (λ f. rw f (place-kept i n st p (omega arith)))
+
+module _ (i : ℕ) (st : Store) (ok : StoreOk st) where
+  abbrev at : ℕ → Store
+  at n = rolledBackBelow i n st
+
+  entries-kept : (n : ℕ) → n < partitionsMax
+      → entriesIn (areaIn n (asRolled st)) ≡ entriesIn (areaIn n (asRolled (at n)))
+  entries-kept n h = let r = rolledBack-below i n st ok (omega arith) in
+      area-is st ok n h ∙ (sym (ok .partition n h .entries-are)
+      ∙ (ap (entriesOf 0) (sym (r .above n h (omega arith))) ∙ (r .sound .partition n h .entries-are
+      ∙ sym (area-is (at n) (r .sound) n h))))
+
+  spare-below : (n : ℕ) → n ≤ partitionsMax → spareBelow i n (asRolled st) ≡ at n .state .partitions .spare
+  unfolding spareBelow spareAfter rolledBackBelow rolledBackAt laidInSpare laid
+  spare-below zero h = refl
+  spare-below (suc n) h = let r = rolledBack-below i n st ok (omega arith) in
+      rw (spare-below n (omega arith), has-is st ok n (omega arith) i, ← r .above n (omega arith) (omega arith),
+        ← place-kept i n st n (omega arith))
+      (split (hasEpoch i (spansAt n (at n))) (λ t. rw t) (λ f. rw f))
+
+  pub rows-below : (n : ℕ) → n ≤ partitionsMax → rowsRolledBelow i n (asRolled st) (st .rows) ≡ at n .rows
+  unfolding rowsRolledBelow rolledBackBelow
+  rows-below zero h = refl
+  rows-below (suc n) h =
+      rw (rows-below n (omega arith), spare-below n (omega arith))
+      (rows-same i (areaIn n (asRolled st)) (areaIn n (asRolled (at n))) (entries-kept n (omega arith)) _ _ _
+        ∙ rw (← place-kept i n st n (omega arith))
+          (rows-step (at n) (rolledBack-below i n st ok (omega arith) .sound) n (omega arith) i))
