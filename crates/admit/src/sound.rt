@@ -31,8 +31,6 @@ pub fn rest_ok(state: State, t: Table, n: usize, m: usize) -> bool
 pub fn is_sound(state: State, t: Table, n: usize, m: usize) -> bool
     ensures { λ r. ⌜ r ≡ soundOf state t n m ⌝ }
 {
-    if !rest_ok(state, t, n, m) {
-        return false;
-    }
-    txn_sound::manager_ok(state.manager)
+    let rest = rest_ok(state, t, n, m);
+    txn::is_sound(state.manager, rest)
 }
