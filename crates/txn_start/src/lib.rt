@@ -2,7 +2,6 @@
 mod start;
 
 use epoch::Epoch;
-use epoch::Start;
 use epoch::predecessor;
 use rules::Answer;
 use rules::Clock;
@@ -21,7 +20,7 @@ ghost use mathlib.Core.Bool.{_&&_};
 ghost use mathlib.Core.Path.{_≡_};
 ghost use Rattle.rules.specs.Begin.{createdManager, begunManager};
 ghost use Rattle.rules.specs.WellFormed.{managerOk};
-ghost use Rattle.rules.specs.Calls.{createAnswer, beginAnswer};
+ghost use Rattle.rules.specs.Calls.{beginAnswer};
 ghost use Rattle.txn.specs.Managed.{managed};
 
 // The manager that making new leaves, whatever s is; whether s names an epoch is Epoch::new's to say.
@@ -45,24 +44,6 @@ pub fn created(s: u64) -> Manager
             count: 0,
             next: 1,
         },
-    }
-}
-
-// Making new at epoch s. It reads no state, so of soundness only the lengths of the lent areas count.
-// Refusals, in this order: 5, 4.
-pub fn create(m: Manager, lengths: bool, s: u64) -> Managed
-    ensures { λ r. ⌜ r ≡ managed (createAnswer s lengths) (createdManager s) m ⌝ }
-{
-    if !lengths {
-        return refused(m, Refusal::Unsound);
-    }
-    let Start::At(first) = Epoch::new(s) else {
-        return refused(m, Refusal::OutOfRange);
-    };
-    let next = created(first.number);
-    Managed {
-        answer: Answer::Created,
-        manager: next,
     }
 }
 
