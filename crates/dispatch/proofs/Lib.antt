@@ -1,3 +1,4 @@
 pub mod Arms
-pub mod Numbered
+pub mod Groups
+pub mod Loans
 pub mod Turning

@@ -6,7 +6,6 @@ pub mod Core
 pub mod Frame
 pub mod Lend
 pub mod Lists
-pub mod Loans
 pub mod Locals
 pub mod Look
 pub mod Picks
