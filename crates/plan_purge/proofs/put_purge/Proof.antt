@@ -1,4 +1,4 @@
--- `plan_purge::put_purge` meets its contract: it has the shape that lent's `Saves.antt` walks, with 64 turns.
+-- `plan_purge::put_purge` meets its contract: it has the shape that lent's `Saving.antt` walks, with 64 turns.
 -- Assumes nothing.
 use native.Mathlib.Omega.{arith}
 use contract.Running.{givenOf, tables, tablesOf}

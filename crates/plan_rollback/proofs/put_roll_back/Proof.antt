@@ -1,4 +1,4 @@
--- `plan_rollback::put_roll_back` meets its contract: it has the shape that lent's `Saves.antt` walks.
+-- `plan_rollback::put_roll_back` meets its contract: it has the shape that lent's `Saving.antt` walks.
 -- Assumes nothing.
 use native.Mathlib.Omega.{arith}
 use contract.Running.{givenOf, tables, tablesOf}
