@@ -1,14 +1,12 @@
 // What every call on one partition asks first: 5, 1 and 2, in 01's order ("Refusals that come from the state").
 ghost use mathlib.Core.Path.{_≡_};
 ghost use Rattle.admit.specs.Admit.{admitted};
-
-use crate::limits::PARTITIONS;
 use lent::Table;
 use rules::Partition;
 use rules::Refusal;
 use rules::State;
+use rules::limits::PARTITIONS_MAX;
 
-pub mod limits;
 pub mod sound;
 
 // The partition, or why the call is refused.
@@ -24,7 +22,8 @@ pub fn admit(is_open: bool, state: State, t: Table, n: usize, m: usize, p: u64) 
     if !sound::is_sound(state, t, n, m) {
         return Admitted::Not(Refusal::Unsound);
     }
-    if PARTITIONS <= p {
+    let places = PARTITIONS_MAX as u64;
+    if places <= p {
         return Admitted::Not(Refusal::UnknownPartition);
     }
     if !is_open {

@@ -1,11 +1,10 @@
 // 01's *sound*: the lengths of the lent areas and the partitions, then the manager.
 ghost use mathlib.Core.Path.{_≡_};
 ghost use Rattle.admit.specs.Sound.{lengthsAre, restOk, soundOf};
-
-use crate::limits::ENTRIES_LENT;
-use crate::limits::ROWS_LENT;
 use lent::Table;
 use rules::State;
+use rules::limits::ENTRIES_LENT;
+use rules::limits::ROWS_LENT;
 
 // n entries and m rows are lent.
 pub fn lengths_ok(n: usize, m: usize) -> bool

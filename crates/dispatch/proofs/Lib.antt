@@ -1,4 +1,1 @@
-pub mod Arms
-pub mod Groups
-pub mod Loans
 pub mod Turning

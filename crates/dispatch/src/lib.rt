@@ -1,15 +1,16 @@
-// Every call by one function: a command in, the public call that it names, the answer out. What it leaves is rules' step.
+// Every call by one function: a command in, the public call that it names, the answer out. What it leaves is rules'
+// step.
 ghost use mathlib.Core.Path.{_≡_};
 ghost use Rattle.rules.specs.Step.{step, callOf};
 ghost use Rattle.store.specs.Kept.{storeOf};
 ghost use Rattle.dispatch.specs.Dispatch.{Did, keptIn, turnedOf};
-
 use lent::Table;
 use rules::Answer;
 use rules::Command;
 use rules::Entry;
 use rules::Reader;
 use rules::State;
+use rules::limits::ENTRIES_LENT;
 use store::Kept;
 
 // What a call answers, the books and the entries after it.
@@ -34,13 +35,17 @@ pub fn dispatch(
 {
     match command {
         Command::Create { start } => store::create(state, entries, rows, start),
-        Command::Begin => store::begin(state, entries, rows),
-        Command::Append { txn, partition } => store::append(state, entries, rows, batch, txn, partition),
+        Command::Manage(call) => store::manage(state, entries, rows, call),
+        Command::Append { txn, partition } => store::append(
+            state,
+            entries,
+            rows,
+            batch,
+            txn,
+            partition,
+        ),
         Command::Clear { txn, partition } => store::clear(state, entries, rows, txn, partition),
-        Command::Commit { txn } => store::commit(state, entries, rows, txn),
         Command::RollBack { txn } => store::roll_back(state, entries, rows, txn),
-        Command::BeginRo { epoch } => store::begin_ro(state, entries, rows, epoch),
-        Command::EndRo { ticket } => store::end_ro(state, entries, rows, ticket),
         Command::Scan { reader, partition } => match reader {
             Reader::Rw(txn) => Kept {
                 answer: store::scan_rw(state, entries, rows, bitmap, txn, partition),
@@ -51,19 +56,18 @@ pub fn dispatch(
                 state,
             },
         },
-        Command::AdvanceLse { target } => store::advance_lse(state, entries, rows, target),
         Command::Purge { partition } => store::purge(state, entries, rows, partition),
     }
 }
 
 // turn is proved by hand, since it lends the entries. What it does beside that call stands in these two, which are not.
-fn entries_in(table: Table) -> [Entry; 576]
+fn entries_in(table: Table) -> [Entry; ENTRIES_LENT]
     ensures { λ r. ⌜ r ≡ table .at ⌝ }
 {
     table.at
 }
 
-fn turned_of(kept: Kept, entries: [Entry; 576]) -> Turned
+fn turned_of(kept: Kept, entries: [Entry; ENTRIES_LENT]) -> Turned
     ensures { λ r. ⌜ r ≡ turnedOf kept entries ⌝ }
 {
     let table = Table { at: entries };

@@ -1,52 +1,60 @@
-// The cases at the edges (01 "At the edges", and the refusals), read from standard input: session lines, and lines of small
-// letters that do what no session can. model/src/bin/edges.rs says what each letter does, and prints the same lines.
+// The cases at the edges (01 "At the edges", and the refusals), read from standard input: session lines, and lines of
+// small letters that do what no session can. model/src/bin/edges.rs says what each letter does, and prints the same
+// lines.
 use lent::Table;
 use libc::STDIN_FILENO;
 use libc::STDOUT_FILENO;
+use places::in_use;
+use replay::area_of;
+use replay::limits::ANSWER_MAX;
+use replay::limits::NUMBERS_MAX;
+use reply::ReplyWords;
+use reply::VALUES_MAX;
+use reply::reply_of;
 use rules::Command;
+use rules::ManagerCall;
 use rules::Reader;
 use rules::State;
+use rules::limits::ROWS_LENT;
+use rules::limits::ROWS_MAX;
 use session_text::Parsed;
-use session_text::print_values;
-use session_text::reply::reply_of;
+use session_text::print_line;
 
 mod poke;
 
-// The store after a line, and how many bytes answer it.
-struct Said {
-    state: State,
-    table: Table,
-    size: usize,
-}
+// One row more, for the case that lends too many.
+const ROWS_MORE: usize = ROWS_LENT + 1;
 
-// Rows lent: 4,608, and one more for the case that lends too many.
-const ROWS: usize = 4608;
-const ROWS_MORE: usize = 4609;
-const NUMBERS: usize = 8192;
-const OUT: usize = 16384;
 const BYTES: usize = 8;
+
 const STALE: u8 = 165;
+
 const ROW: u64 = 7;
-const AREA: usize = 512;
 
 // The first n bytes, to standard output.
 fn send(bytes: &[u8], n: usize) {
     if bytes.len() < n {
         return;
     }
-    io::write_all(STDOUT_FILENO, &bytes[..n]);
+    io::write_all(STDOUT_FILENO, &bytes[0..n]);
 }
 
 fn wide(b: u8) -> u64 {
     b as u64
 }
 
-// The store after a call, and its answer as numbers.
+// The store after a line, and how many bytes of its answer are left to send.
+struct Said {
+    state: State,
+    table: Table,
+    written: usize,
+}
+
+// The store after a call, and its answer in 01's numbers.
 struct Done {
     state: State,
     table: Table,
-    number: u64,
-    value: u64,
+    reply: ReplyWords,
 }
 
 // A call that is lent a stale bitmap of eight bytes.
@@ -57,17 +65,19 @@ fn once(state: State, table: Table, rows: &mut [u64], batch: &[u64], command: Co
     let reply = reply_of(answer);
     let s = done.state;
     let t = done.table;
-    Done { state: s, table: t, number: reply.number, value: reply.value }
+    Done {
+        state: s,
+        table: t,
+        reply: reply,
+    }
 }
 
-// The number of an answer, and its value where it was accepted.
-fn print_answer(letter: u8, number: u64, value: u64, out: &mut [u8]) -> usize {
-    if number == 0 {
-        let values = [value];
-        return print_values(letter, number, &values, out);
-    }
-    let none = [0u64; 0];
-    print_values(letter, number, &none, out)
+// The number of an answer, and its values.
+fn print_reply(letter: u8, reply: ReplyWords, out: &mut [u8]) -> usize {
+    let told = reply.values;
+    let values = [told[0], told[1]];
+    let count = in_use(reply.count, VALUES_MAX);
+    print_line(letter, reply.number, &values[0..count], out)
 }
 
 // A call so many times, and the last answer.
@@ -83,37 +93,68 @@ fn repeat(
 ) -> Said {
     let mut s = state;
     let mut t = table;
-    let mut number = 0;
-    let mut value = 0;
+    let mut reply = ReplyWords {
+        number: 0,
+        values: [0; VALUES_MAX],
+        count: 1,
+    };
     let mut left = count;
     while 0 < left {
         let done = once(s, t, rows, batch, command);
-        number = done.number;
-        value = done.value;
+        let told = done.reply;
         let next = done.state;
         let entries = done.table;
+        reply = told;
         s = next;
         t = entries;
         left -= 1;
     }
-    let size = print_answer(letter, number, value, out);
-    Said { state: s, table: t, size: size }
+    let size = print_reply(letter, reply, out);
+    Said {
+        state: s,
+        table: t,
+        written: size,
+    }
 }
 
 // Made new, or begun with so many rows lent: the number alone.
-fn number_only(state: State, table: Table, rows: &mut [u64], command: Command, letter: u8, out: &mut [u8]) -> Said {
+fn number_only(
+    state: State,
+    table: Table,
+    rows: &mut [u64],
+    command: Command,
+    letter: u8,
+    out: &mut [u8],
+) -> Said {
     let none = [0u64; 0];
     let done = once(state, table, rows, &none, command);
-    let size = print_values(letter, done.number, &none, out);
+    let size = print_line(letter, done.reply.number, &none, out);
     let s = done.state;
     let t = done.table;
-    Said { state: s, table: t, size: size }
+    Said {
+        state: s,
+        table: t,
+        written: size,
+    }
 }
 
 // A scan by a load (who is 0) or a page, lent the first n of eight stale bytes: the counts and all eight.
-fn scan(state: State, table: Table, rows: &mut [u64], who: u64, id: u64, lot: u64, n: usize, out: &mut [u8]) -> Said {
+fn scan(
+    state: State,
+    table: Table,
+    rows: &mut [u64],
+    who: u64,
+    id: u64,
+    lot: u64,
+    n: usize,
+    out: &mut [u8],
+) -> Said {
     if BYTES < n {
-        return Said { state: state, table: table, size: 0 };
+        return Said {
+            state: state,
+            table: table,
+            written: 0,
+        };
     }
     let none = [0u64; 0];
     let mut b = [STALE; BYTES];
@@ -121,13 +162,17 @@ fn scan(state: State, table: Table, rows: &mut [u64], who: u64, id: u64, lot: u6
     if who == 0 {
         reader = Reader::Rw(id);
     }
-    let command = Command::Scan { reader: reader, partition: lot };
-    let done = dispatch::turn(state, table, rows, &none, &mut b[..n], command);
+    let command = Command::Scan {
+        reader: reader,
+        partition: lot,
+    };
+    let done = dispatch::turn(state, table, rows, &none, &mut b[0..n], command);
     let answer = done.answer;
     let reply = reply_of(answer);
+    let told = reply.values;
     let values = [
-        reply.value,
-        reply.second,
+        told[0],
+        told[1],
         wide(b[0]),
         wide(b[1]),
         wide(b[2]),
@@ -137,44 +182,38 @@ fn scan(state: State, table: Table, rows: &mut [u64], who: u64, id: u64, lot: u6
         wide(b[6]),
         wide(b[7]),
     ];
-    let size = print_values(b't', reply.number, &values, out);
+    let size = print_line(b't', reply.number, &values, out);
     let s = done.state;
     let t = done.table;
-    Said { state: s, table: t, size: size }
-}
-
-// The area of a lot, and 0 where there is none such.
-fn area_of(state: State, lot: u64) -> usize {
-    let ps = state.partitions;
-    if 8 <= lot {
-        return 0;
+    Said {
+        state: s,
+        table: t,
+        written: size,
     }
-    let place = lot as usize;
-    ps.at[place].area
 }
 
 // The words of an area, or all where it is not among them.
 fn area(rows: &[u64], at: usize) -> &[u64] {
-    let from = compact::areas::row_base(at);
-    if rows.len() < AREA {
+    let from = area::row_base(at);
+    if rows.len() < ROWS_MAX {
         return rows;
     }
-    if rows.len() - AREA < from {
+    if rows.len() - ROWS_MAX < from {
         return rows;
     }
-    let end = from + AREA;
+    let end = from + ROWS_MAX;
     &rows[from..end]
 }
 
 // The rows in force, after a line that says how many.
 fn print_part(part: &[u64], out: &mut [u8]) -> usize {
     let n = part.len();
-    print_values(b'r', n as u64, part, out)
+    print_line(b'r', n as u64, part, out)
 }
 
 // A purge: whether it rewrote, and on a line of its own the rows in force.
 fn purge(state: State, table: Table, rows: &mut [u64], lot: u64, out: &mut [u8]) -> Said {
-    let old = area_of(state, lot);
+    let old = area_of(state.partitions, lot);
     let spare = state.partitions.spare;
     let none = [0u64; 0];
     let mut bitmap = [STALE; BYTES];
@@ -182,14 +221,19 @@ fn purge(state: State, table: Table, rows: &mut [u64], lot: u64, out: &mut [u8])
     let done = dispatch::turn(state, table, rows, &none, &mut bitmap, command);
     let answer = done.answer;
     let reply = reply_of(answer);
-    let value = [reply.value];
-    let size = print_values(b'p', reply.number, &value, out);
+    let told = reply.values;
+    let value = [told[0]];
+    let size = print_line(b'p', reply.number, &value, out);
     send(out, size);
     let live = live_part::in_force(area(rows, old), area(rows, spare), answer);
     let more = print_part(live, out);
     let s = done.state;
     let t = done.table;
-    Said { state: s, table: t, size: more }
+    Said {
+        state: s,
+        table: t,
+        written: more,
+    }
 }
 
 // A line of a small letter, and its first four numbers.
@@ -205,55 +249,153 @@ fn edge(
     out: &mut [u8],
 ) -> Said {
     let none = [0u64; 0];
-    let batch = [ROW; NUMBERS];
-    if rows.len() < ROWS {
-        return Said { state: state, table: table, size: 0 };
+    let batch = [ROW; NUMBERS_MAX];
+    if rows.len() < ROWS_LENT {
+        return Said {
+            state: state,
+            table: table,
+            written: 0,
+        };
     }
     match letter {
-        b'n' => number_only(state, table, &mut rows[..ROWS], Command::Create { start: a }, letter, out),
+        b'n' => number_only(
+            state,
+            table,
+            &mut rows[0..ROWS_LENT],
+            Command::Create { start: a },
+            letter,
+            out,
+        ),
         b'w' => {
             let poked = poke::poke(state, table, a, b);
             let s = poked.state;
             let t = poked.table;
-            Said { state: s, table: t, size: 0 }
+            Said {
+                state: s,
+                table: t,
+                written: 0,
+            }
         }
-        b't' => scan(state, table, &mut rows[..ROWS], a, b, c, d as usize, out),
-        b'p' => purge(state, table, &mut rows[..ROWS], a, out),
+        b't' => scan(
+            state,
+            table,
+            &mut rows[0..ROWS_LENT],
+            a,
+            b,
+            c,
+            d as usize,
+            out,
+        ),
+        b'p' => purge(state, table, &mut rows[0..ROWS_LENT], a, out),
         b'g' => {
             let n = a as usize;
             if rows.len() < n {
-                return Said { state: state, table: table, size: 0 };
+                return Said {
+                    state: state,
+                    table: table,
+                    written: 0,
+                };
             }
-            number_only(state, table, &mut rows[..n], Command::Begin, letter, out)
+            number_only(
+                state,
+                table,
+                &mut rows[0..n],
+                Command::Manage(ManagerCall::Begin),
+                letter,
+                out,
+            )
         }
         b'f' => {
             let n = c as usize;
-            if NUMBERS < n {
-                return Said { state: state, table: table, size: 0 };
+            if NUMBERS_MAX < n {
+                return Said {
+                    state: state,
+                    table: table,
+                    written: 0,
+                };
             }
-            let command = Command::Append { txn: a, partition: b };
-            repeat(state, table, &mut rows[..ROWS], &batch[..n], command, letter, 1, out)
+            let command = Command::Append {
+                txn: a,
+                partition: b,
+            };
+            repeat(
+                state,
+                table,
+                &mut rows[0..ROWS_LENT],
+                &batch[0..n],
+                command,
+                letter,
+                1,
+                out,
+            )
         }
-        b'b' => repeat(state, table, &mut rows[..ROWS], &none, Command::Begin, letter, a, out),
-        b'q' => repeat(state, table, &mut rows[..ROWS], &none, Command::BeginRo { epoch: 0 }, letter, a, out),
+        b'b' => {
+            let command = Command::Manage(ManagerCall::Begin);
+            repeat(
+                state,
+                table,
+                &mut rows[0..ROWS_LENT],
+                &none,
+                command,
+                letter,
+                a,
+                out,
+            )
+        }
+        b'q' => {
+            let command = Command::Manage(ManagerCall::BeginRo { epoch: 0 });
+            repeat(
+                state,
+                table,
+                &mut rows[0..ROWS_LENT],
+                &none,
+                command,
+                letter,
+                a,
+                out,
+            )
+        }
         b'd' => {
-            let command = Command::Clear { txn: a, partition: b };
-            repeat(state, table, &mut rows[..ROWS], &none, command, letter, c, out)
+            let command = Command::Clear {
+                txn: a,
+                partition: b,
+            };
+            repeat(
+                state,
+                table,
+                &mut rows[0..ROWS_LENT],
+                &none,
+                command,
+                letter,
+                c,
+                out,
+            )
         }
-        _ => Said { state: state, table: table, size: 0 },
+        _ => Said {
+            state: state,
+            table: table,
+            written: 0,
+        },
     }
 }
 
-// The numbers of a line, read as those of an append; answers whether it has any.
+// The numbers of a line with its end, read as those of an append; answers whether it has any.
 fn has_numbers(line: &[u8], numbers: &mut [u64]) -> bool {
-    let parsed = session_text::parse(line, numbers);
+    if line.len() == 0 {
+        return false;
+    }
+    let end = line.len() - 1;
+    let parsed = session_text::parse(&line[0..end], numbers);
     match parsed {
-        Parsed::Call { command: _, rows: _ } => true,
+        Parsed::Call {
+            command: _,
+            rows: _,
+        } => true,
         Parsed::Bad => false,
     }
 }
 
-// One line of the cases. Of a line of a small letter the letter was taken, and A put in its place.
+// One line of the cases, with its end. Of a line of a small letter the letter was taken, and A put in its place.
 fn say(
     state: State,
     table: Table,
@@ -263,23 +405,48 @@ fn say(
     numbers: &mut [u64],
     out: &mut [u8],
 ) -> Said {
-    if rows.len() < ROWS {
-        return Said { state: state, table: table, size: 0 };
+    if rows.len() < ROWS_LENT {
+        return Said {
+            state: state,
+            table: table,
+            written: 0,
+        };
     }
     if letter < b'a' {
-        let done = replay::answer_line(state, table, line, &mut rows[..ROWS], numbers, out);
+        let done = replay::replay(state, table, line, &mut rows[0..ROWS_LENT], numbers, out);
         let s = done.state;
         let t = done.table;
-        let n = done.written;
-        return Said { state: s, table: t, size: n };
+        return Said {
+            state: s,
+            table: t,
+            written: done.written,
+        };
     }
     if !has_numbers(line, numbers) {
-        return Said { state: state, table: table, size: 0 };
+        return Said {
+            state: state,
+            table: table,
+            written: 0,
+        };
     }
     if numbers.len() < 4 {
-        return Said { state: state, table: table, size: 0 };
+        return Said {
+            state: state,
+            table: table,
+            written: 0,
+        };
     }
-    edge(state, table, rows, letter, numbers[0], numbers[1], numbers[2], numbers[3], out)
+    edge(
+        state,
+        table,
+        rows,
+        letter,
+        numbers[0],
+        numbers[1],
+        numbers[2],
+        numbers[3],
+        out,
+    )
 }
 
 // The store after a line, and where the next begins; 0 where there is none.
@@ -306,30 +473,54 @@ fn step(
     out: &mut [u8],
 ) -> Stepped {
     if input.len() < n {
-        return Stepped { state: state, table: table, next: 0 };
+        return Stepped {
+            state: state,
+            table: table,
+            next: 0,
+        };
     }
     let stop = session_text::line_end(input, used);
     if stop < used {
-        return Stepped { state: state, table: table, next: 0 };
+        return Stepped {
+            state: state,
+            table: table,
+            next: 0,
+        };
     }
     if n <= stop {
-        return Stepped { state: state, table: table, next: 0 };
+        return Stepped {
+            state: state,
+            table: table,
+            next: 0,
+        };
     }
     let letter = input[used];
     let next = stop + 1;
     if letter == b'#' {
         io::write_all(STDOUT_FILENO, &input[used..next]);
-        return Stepped { state: state, table: table, next: next };
+        return Stepped {
+            state: state,
+            table: table,
+            next: next,
+        };
     }
     input[used] = as_append(letter);
-    if input.len() < stop {
-        return Stepped { state: state, table: table, next: 0 };
+    if input.len() < next {
+        return Stepped {
+            state: state,
+            table: table,
+            next: 0,
+        };
     }
-    let said = say(state, table, letter, &input[used..stop], rows, numbers, out);
+    let said = say(state, table, letter, &input[used..next], rows, numbers, out);
     let s = said.state;
     let t = said.table;
-    send(out, said.size);
-    Stepped { state: s, table: t, next: next }
+    send(out, said.written);
+    Stepped {
+        state: s,
+        table: t,
+        next: next,
+    }
 }
 
 // Line after line. A proved loop has to end, so it counts its turns down; the input has fewer lines than bytes.
@@ -357,7 +548,7 @@ fn main() {
     let mut input = io::large_buffer();
     let n = io::read_full(STDIN_FILENO, &mut input);
     let mut rows = [0u64; ROWS_MORE];
-    let mut numbers = [0u64; NUMBERS];
-    let mut out = [0u8; OUT];
+    let mut numbers = [0u64; NUMBERS_MAX];
+    let mut out = [0u8; ANSWER_MAX];
     run(&mut input, n, &mut rows, &mut numbers, &mut out);
 }

@@ -10,25 +10,33 @@ use rules::RoTxns;
 use rules::RwTxn;
 use rules::RwTxns;
 use rules::State;
+use rules::limits::PARTITIONS_MAX;
+use rules::limits::WRITERS_MAX;
+
+// The last place of a transaction.
+const LAST_PLACE: usize = WRITERS_MAX - 1;
 
 pub(crate) struct Poked {
     pub state: State,
     pub table: Table,
 }
 
-// Before the first making new.
+// Before the first making new: all partitions in one area, which is unsound.
 pub(crate) fn blank() -> Poked {
-    let manager = txn_start::created(1);
+    let mut state = store::new_books(1);
     let at = [Partition {
         area: 0,
         rows: 0,
         entries: 0,
-    }; 8];
+    }; PARTITIONS_MAX];
     let partitions = Partitions { at: at, spare: 0 };
-    let state = State { manager: manager, partitions: partitions };
+    state.partitions = partitions;
     let entries = lent::blank();
     let table = lent::to_table(entries);
-    Poked { state: state, table: table }
+    Poked {
+        state: state,
+        table: table,
+    }
 }
 
 fn clock(c: Clock, field: u64, value: u64) -> Clock {
@@ -71,7 +79,11 @@ fn writer(t: RwTxn, field: u64, value: u64) -> RwTxn {
             d.at[30] = value;
         }
     }
-    RwTxn { epoch: epoch, waiting: waiting, deps: d }
+    RwTxn {
+        epoch: epoch,
+        waiting: waiting,
+        deps: d,
+    }
 }
 
 fn writers(w: RwTxns, field: u64, value: u64) -> RwTxns {
@@ -81,9 +93,9 @@ fn writers(w: RwTxns, field: u64, value: u64) -> RwTxns {
         return ts;
     }
     if field == 44 {
-        let t = ts.at[31];
+        let t = ts.at[LAST_PLACE];
         let u = writer(t, field, value);
-        ts.at[31] = u;
+        ts.at[LAST_PLACE] = u;
         return ts;
     }
     let t = ts.at[0];
@@ -103,15 +115,24 @@ fn readers(r: RoTxns, field: u64, value: u64) -> RoTxns {
         }
         50 => {
             let e = ps.at[0].epoch;
-            ps.at[0] = RoTxn { ticket: value, epoch: e };
+            ps.at[0] = RoTxn {
+                ticket: value,
+                epoch: e,
+            };
         }
         51 => {
             let t = ps.at[0].ticket;
-            ps.at[0] = RoTxn { ticket: t, epoch: value };
+            ps.at[0] = RoTxn {
+                ticket: t,
+                epoch: value,
+            };
         }
         _ => {
-            let e = ps.at[31].epoch;
-            ps.at[31] = RoTxn { ticket: value, epoch: e };
+            let e = ps.at[LAST_PLACE].epoch;
+            ps.at[LAST_PLACE] = RoTxn {
+                ticket: value,
+                epoch: e,
+            };
         }
     }
     ps
@@ -152,7 +173,7 @@ fn partitions(ps: Partitions, field: u64, value: u64) -> Partitions {
         return next;
     }
     let place = (field % 10) as usize;
-    if 8 <= place {
+    if PARTITIONS_MAX <= place {
         return next;
     }
     let q = next.at[place];
@@ -166,7 +187,11 @@ fn partitions(ps: Partitions, field: u64, value: u64) -> Partitions {
     } else {
         entries = value as usize;
     }
-    next.at[place] = Partition { area: area, rows: rows, entries: entries };
+    next.at[place] = Partition {
+        area: area,
+        rows: rows,
+        entries: entries,
+    };
     next
 }
 
@@ -203,25 +228,40 @@ fn entries(t: Table, field: u64, value: u64) -> Table {
 pub(crate) fn poke(state: State, table: Table, field: u64, value: u64) -> Poked {
     if 60 <= field {
         let t = entries(table, field, value);
-        return Poked { state: state, table: t };
+        return Poked {
+            state: state,
+            table: t,
+        };
     }
     let mut s = state;
     if field == 6 {
         let ps = partitions(s.partitions, field, value);
         s.partitions = ps;
-        return Poked { state: s, table: table };
+        return Poked {
+            state: s,
+            table: table,
+        };
     }
     if field < 10 {
         let m = manager(s.manager, field, value);
         s.manager = m;
-        return Poked { state: s, table: table };
+        return Poked {
+            state: s,
+            table: table,
+        };
     }
     if field < 40 {
         let ps = partitions(s.partitions, field, value);
         s.partitions = ps;
-        return Poked { state: s, table: table };
+        return Poked {
+            state: s,
+            table: table,
+        };
     }
     let m = manager(s.manager, field, value);
     s.manager = m;
-    Poked { state: s, table: table }
+    Poked {
+        state: s,
+        table: table,
+    }
 }

@@ -1,7 +1,8 @@
 // Epochs: the range that making new takes, and the clock's step. 01 "The books"; 004 III-B "EC".
-pub mod lent;
+pub mod tick;
 
 use rules::Clock;
+use rules::limits::LAST_EPOCH;
 ghost use mathlib.Core.Path.{_≡_};
 ghost use Prim.Native.Nat.{_-_};
 ghost use Rattle.epoch.specs.Epochs.{startOf};
@@ -20,8 +21,8 @@ pub enum Start {
 
 impl Epoch {
     pub const FIRST: Epoch = Epoch { number: 1 };
-    // rules' lastEpoch: 31 bits
-    pub const LAST: Epoch = Epoch { number: 2147483647 };
+
+    pub const LAST: Epoch = Epoch { number: LAST_EPOCH };
 
     pub fn new(s: u64) -> Start
         ensures { λ r. ⌜ r ≡ startOf s ⌝ }
@@ -54,6 +55,6 @@ pub fn advanced(clock: Clock) -> Ticked
     ensures { λ r. ⌜ r ≡ ticked clock ⌝ }
 {
     let mut c = clock;
-    let e = lent::advance(&mut c);
+    let e = tick::advance(&mut c);
     Ticked { epoch: e, clock: c }
 }

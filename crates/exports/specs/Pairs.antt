@@ -9,7 +9,7 @@ use Rattle.rules.specs.Calls.{beginAnswer, closeAnswer}
 use Rattle.rules.specs.declared.Manager.{Manager}
 use Rattle.txn.specs.Managed.{managed}
 use Rattle.rewrite_plan.specs.Plan.{spansIn, planOf, rollEpochs, purgeEpochs}
-use Rattle.visible.specs.declared.Area.{Area}
+use Rattle.area.specs.declared.Area.{Area}
 use Rattle.rewrite_plan.specs.declared.Plan.{Plan}
 
 abbrev pub begunOnly : Manager → Manager

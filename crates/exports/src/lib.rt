@@ -1,5 +1,5 @@
-// Proved functions for callers in C and Rust: what the comparison with the model calls, and what the benchmark times. Each
-// says what the functions say that it calls.
+// Proved functions for callers in C and Rust: what the comparison with the model calls, and what the benchmark times.
+// Each says what the functions say that it calls.
 ghost use mathlib.Core.Path.{_≡_};
 ghost use Rattle.partition.specs.Rows.{putRows};
 ghost use Rattle.visible.specs.Scan.{scanned, bitmapScanned};
@@ -12,15 +12,15 @@ ghost use Rattle.exports.specs.Numbered.{commandOf, Answers};
 
 mod numbered;
 
+use area::Area;
+use numbered::Replied;
 use numbered::command_of;
 use numbered::reply_to;
-use numbered::Replied;
-use rewrite_plan::Plan;
 use rewrite::Rewritten;
+use rewrite_plan::Plan;
 use rules::Entry;
 use rules::Manager;
 use rules::State;
-use visible::Area;
 use visible::View;
 
 // A transaction begun, and committed at once.
@@ -30,7 +30,7 @@ pub extern "C" fn nizgulk_begin_commit(m: Manager) -> Manager
 {
     let e = m.clock.ec;
     let begun = txn_start::begin(m, true);
-    let committed = txn_close::commit(begun.manager, true, e);
+    let committed = txn_close::close_txn(begun.manager, true, e, true);
     let after = committed.manager;
     after
 }
@@ -81,12 +81,20 @@ pub extern "C" fn nizgulk_copy_kept(rows: &mut [u64], a: Area, p: Plan, from: us
 
 // Any call by its number, over lent areas: numbered::command_of says which.
 #[no_mangle]
-pub extern "C" fn nizgulk_call(state: State, entries: &mut [Entry], rows: &mut [u64], batch: &[u64],
-    bitmap: &mut [u8], kind: u64, first: u64, second: u64) -> Replied
+pub extern "C" fn nizgulk_call(
+    state: State,
+    entries: &mut [Entry],
+    rows: &mut [u64],
+    batch: &[u64],
+    bitmap: &mut [u8],
+    kind: u64,
+    first: u64,
+    second: u64,
+) -> Replied
     ensures { λ r. ⌜ (let c = commandOf kind first second in
         Answers c (step (callOf c (now (batch .entry)) (now (bitmap .entry)))
-                (storeOf state (now (rows .entry)) (now (entries .entry))))
-            r (now (rows .exit)) (now (entries .exit)) (now (bitmap .entry)) (now (bitmap .exit))) ⌝ }
+        (storeOf state (now (rows .entry)) (now (entries .entry))))
+        r (now (rows .exit)) (now (entries .exit)) (now (bitmap .entry)) (now (bitmap .exit))) ⌝ }
 {
     let c = command_of(kind, first, second);
     let k = dispatch::dispatch(state, entries, rows, batch, bitmap, c);

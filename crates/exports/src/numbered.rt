@@ -1,10 +1,10 @@
 // Calls and replies as numbers, for callers in C and Rust.
+use reply::reply_of;
 use rules::Command;
+use rules::ManagerCall;
 use rules::Reader;
 use rules::State;
-use session_text::reply::reply_of;
 use store::Kept;
-
 ghost use mathlib.Core.Path.{_≡_};
 ghost use Rattle.exports.specs.Numbered.{commandOf, repliedOf};
 
@@ -24,16 +24,28 @@ pub fn command_of(kind: u64, first: u64, second: u64) -> Command
 {
     match kind {
         0 => Command::Create { start: first },
-        1 => Command::Begin,
-        2 => Command::Append { txn: first, partition: second },
-        3 => Command::Clear { txn: first, partition: second },
-        4 => Command::Commit { txn: first },
+        1 => Command::Manage(ManagerCall::Begin),
+        2 => Command::Append {
+            txn: first,
+            partition: second,
+        },
+        3 => Command::Clear {
+            txn: first,
+            partition: second,
+        },
+        4 => Command::Manage(ManagerCall::Commit { txn: first }),
         5 => Command::RollBack { txn: first },
-        6 => Command::BeginRo { epoch: first },
-        7 => Command::EndRo { ticket: first },
-        8 => Command::Scan { reader: Reader::Rw(first), partition: second },
-        9 => Command::Scan { reader: Reader::Ro(first), partition: second },
-        10 => Command::AdvanceLse { target: first },
+        6 => Command::Manage(ManagerCall::BeginRo { epoch: first }),
+        7 => Command::Manage(ManagerCall::EndRo { ticket: first }),
+        8 => Command::Scan {
+            reader: Reader::Rw(first),
+            partition: second,
+        },
+        9 => Command::Scan {
+            reader: Reader::Ro(first),
+            partition: second,
+        },
+        10 => Command::Manage(ManagerCall::AdvanceLse { target: first }),
         _ => Command::Purge { partition: first },
     }
 }
@@ -44,10 +56,11 @@ pub fn reply_to(k: Kept) -> Replied
     let answer = k.answer;
     let state = k.state;
     let reply = reply_of(answer);
+    let values = reply.values;
     Replied {
         number: reply.number,
-        value: reply.value,
-        second: reply.second,
+        value: values[0],
+        second: values[1],
         state: state,
     }
 }

@@ -3,12 +3,12 @@
 ghost use mathlib.Core.Path.{_≡_};
 ghost use lib.ListN.{length, set, getD};
 ghost use Rattle.lent.specs.Entries.{none, filled0, filled, tableOf};
-
 use rules::Entry;
+use rules::limits::ENTRIES_LENT;
 
 // All nine areas of entries by value.
 pub struct Table {
-    pub at: [Entry; 576],
+    pub at: [Entry; ENTRIES_LENT],
 }
 
 // The entry at i, or the blank one past the end.
@@ -25,17 +25,17 @@ pub fn entry_at(entries: &[Entry], i: usize) -> Entry
     }
 }
 
-pub fn blank() -> [Entry; 576]
+pub fn blank() -> [Entry; ENTRIES_LENT]
     ensures { λ r. ⌜ r ≡ filled0 ⌝ }
 {
     [Entry {
         epoch: 0,
         end: 0,
         mark: 0,
-    }; 576]
+    }; ENTRIES_LENT]
 }
 
-pub fn to_table(a: [Entry; 576]) -> Table
+pub fn to_table(a: [Entry; ENTRIES_LENT]) -> Table
     ensures { λ r. ⌜ r ≡ record { at = a } ⌝ }
 {
     Table { at: a }
@@ -47,7 +47,7 @@ pub fn load_all(entries: &[Entry]) -> Table
 {
     let mut a = blank();
     let mut i = 0;
-    while i < 576 {
+    while i < ENTRIES_LENT {
         a[i] = entry_at(entries, i);
         i = i + 1;
     }

@@ -1,6 +1,5 @@
 // The rows in force after a purge: a part of one of two lent areas. 01 "Lots", Purge.
 use rules::Answer;
-
 ghost use mathlib.Core.Path.{_≡_};
 ghost use lib.ListN.{take};
 ghost use Rattle.rules.specs.Answers.{livePart};

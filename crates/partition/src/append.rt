@@ -2,27 +2,29 @@
 use crate::Full;
 use crate::Plan;
 use lent::Table;
-use crate::limits::AREAS;
-use crate::limits::ENTRIES;
-use crate::limits::ROWS;
 use rules::Entry;
 use rules::Partition;
+use rules::limits::AREAS_MAX;
+use rules::limits::ENTRIES_LENT;
+use rules::limits::ENTRIES_MAX;
+use rules::limits::ROWS_LENT;
+use rules::limits::ROWS_MAX;
 ghost use mathlib.Core.Path.{_≡_};
 ghost use Prim.Native.Nat.{_≤_, _<_};
 ghost use Rattle.rules.specs.Limits.{areasMax, rowsMax, entriesMax};
-ghost use Rattle.partition.specs.Append.{inRange, grows, fullIf, stays, appendAt, appendPlan, clearPlan};
+ghost use Rattle.partition.specs.Append.{inRange, grows, fullIf, stays, placed, appendAt, appendPlan, clearPlan};
 
 // An area of the nine, at most 512 rows and 64 entries.
 fn in_range(q: Partition) -> bool
     ensures { λ r. ⌜ r ≡ inRange q ⌝ }
 {
-    if AREAS <= q.area {
+    if AREAS_MAX <= q.area {
         return false;
     }
-    if ROWS < q.rows {
+    if ROWS_MAX < q.rows {
         return false;
     }
-    q.entries <= ENTRIES
+    q.entries <= ENTRIES_MAX
 }
 
 // Nothing is written: there is no room for the rows or for an entry, or nothing to write.
@@ -31,15 +33,35 @@ fn stay(q: Partition, rows: bool, entries: bool) -> Plan
 {
     Plan {
         full: Full { rows, entries },
-        index: ENTRIES * AREAS,
+        index: ENTRIES_LENT,
         entry: Entry {
             epoch: 0,
             end: 0,
             mark: 0,
         },
-        row: ROWS * AREAS,
+        row: ROWS_LENT,
         rows: q.rows,
         entries: q.entries,
+    }
+}
+
+// The entry goes behind the partition's first n, which stay as they are, and the batch to `row`; the partition then has
+// as many rows as the entry's end says.
+fn place(n: usize, q: Partition, row: usize, entry: Entry) -> Plan
+    requires { ⌜ (q .area < areasMax) × (n < entriesMax) ⌝ }
+    ensures { λ r. ⌜ r ≡ placed n q row entry ⌝ }
+{
+    let area = q.area;
+    Plan {
+        full: Full {
+            rows: false,
+            entries: false,
+        },
+        index: ENTRIES_MAX * area + n,
+        entry,
+        row,
+        rows: entry.end,
+        entries: n + 1,
     }
 }
 
@@ -58,34 +80,18 @@ fn append_at(n: usize, q: Partition, i: u64, k: usize) -> Plan
     requires { ⌜ (q .area < areasMax) × (q .rows ≤ rowsMax) × (n ≤ entriesMax) ⌝ }
     ensures { λ r. ⌜ r ≡ appendAt n q i k ⌝ }
 {
-    if ROWS - q.rows < k {
-        return stay(q, true, ENTRIES <= n);
+    if ROWS_MAX - q.rows < k {
+        return stay(q, true, ENTRIES_MAX <= n);
     }
-    if ENTRIES <= n {
+    if ENTRIES_MAX <= n {
         return stay(q, false, true);
     }
-    let area = q.area;
-    let index = ENTRIES * area + n;
-    let row = ROWS * area + q.rows;
-    let end = q.rows + k;
-    let entries = n + 1;
-    let full = Full {
-        rows: false,
-        entries: false,
-    };
     let entry = Entry {
         epoch: i,
-        end,
+        end: q.rows + k,
         mark: 0,
     };
-    Plan {
-        full,
-        index,
-        entry,
-        row,
-        rows: end,
-        entries,
-    }
+    place(n, q, ROWS_MAX * q.area + q.rows, entry)
 }
 
 // What an append of k rows by transaction i writes. Words out of range are taken for a full partition.
@@ -103,7 +109,7 @@ pub fn append_plan(t: Table, q: Partition, i: u64, k: usize) -> Plan
         return append_at(0, q, i, k);
     }
     let area = q.area;
-    let last = t.at[ENTRIES * area + (n - 1)];
+    let last = t.at[ENTRIES_MAX * area + (n - 1)];
     if does_grow(last, i) {
         return append_at(n - 1, q, i, k);
     }
@@ -117,30 +123,13 @@ pub fn clear_plan(q: Partition, i: u64) -> Plan
     if !in_range(q) {
         return stay(q, true, true);
     }
-    if ENTRIES <= q.entries {
+    if ENTRIES_MAX <= q.entries {
         return stay(q, false, true);
     }
-    let n = q.entries;
-    let area = q.area;
-    let index = ENTRIES * area + n;
-    let row = ROWS * AREAS;
-    let end = q.rows;
-    let entries = n + 1;
-    let full = Full {
-        rows: false,
-        entries: false,
-    };
     let entry = Entry {
         epoch: i,
-        end,
+        end: q.rows,
         mark: 1,
     };
-    Plan {
-        full,
-        index,
-        entry,
-        row,
-        rows: end,
-        entries,
-    }
+    place(q.entries, q, ROWS_LENT, entry)
 }

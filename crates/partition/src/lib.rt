@@ -4,7 +4,6 @@ use rules::Entry;
 
 pub mod append;
 pub mod areas;
-mod limits;
 pub mod rows;
 
 // What there is no room for: the rows (01: 8), an entry that is needed (01: 9).

@@ -1,5 +1,2 @@
 pub mod Areas
-pub mod Collect
-pub mod Follows
 pub mod Sound
-pub mod Steps

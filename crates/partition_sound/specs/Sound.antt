@@ -1,15 +1,15 @@
 -- The part of 01's *sound* that is about lots, over the clock and the epochs of the records, and in one pass.
--- In order: the records' epochs as a list; an epoch, an entry, a partition; one pass over the entries; where they
--- stand; all partitions.
+-- In order: the records' epochs as a list; an epoch, an entry, a partition; one pass over the entries; all
+-- partitions.
 -- Laws: proofs/Laws/Sound.antt (partitionOkBy is rules' partitionOk, and one pass finds it).
 -- Assumes nothing.
-use mathlib.Core.Bool.{Bool, not, _&&_, _||_, cond}
+use mathlib.Core.Bool.{Bool, not, _&&_, _||_}
 use mathlib.Core.List.{List, [], _∷_, map}
 use Prim.Native.Nat.{ℕ, _*_}
 use lib.ListN.{length, take}
 use lib.Dec.{ltb, leb, eqb}
 use Rattle.lists.specs.Lists.{allOf, elem, pad, part}
-use Rattle.rules.specs.Limits.{writersMax, areasMax, rowsMax, entriesMax}
+use Rattle.rules.specs.Limits.{writersMax, rowsMax, entriesMax}
 use Rattle.rules.specs.WellFormed.{areasOk, endsOk, alike, apart, partitionOk}
 use Rattle.rules.specs.declared.Clock.{Clock}
 use Rattle.rules.specs.declared.Entry.{Entry}
@@ -18,7 +18,6 @@ use Rattle.rules.specs.declared.Partition.{Partition}
 use Rattle.rules.specs.declared.Partitions.{Partitions}
 use Rattle.rules.specs.declared.RwTxns.{RwTxns}
 use Rattle.partition_sound.specs.declared.Epochs.{Epochs}
-use Rattle.partition_sound.specs.declared.Extent.{Extent}
 
 -- ---- the records' epochs
 
@@ -59,12 +58,6 @@ beforeFirst = record { epoch = 0; end = 0; mark = 1 }
 unfoldable pub chained : Clock → List ℕ → ℕ → Entry → List Entry → Bool
 chained c js rows d [] = eqb (d .end) rows
 chained c js rows d (e ∷ es) = follows c js d e && chained c js rows e es
-
--- ---- where a partition's entries stand; none where its area is none of the nine
-
-unfoldable pub extentOf : Partition → Extent
-extentOf q = cond (ltb (q .area) areasMax)
-    (record { base = entriesMax * q .area; count = q .entries }) (record { base = 0; count = 0 })
 
 -- ---- the lots' part of wellFormed
 

@@ -1,14 +1,14 @@
 // The nine areas and who has which. 01 "Refusals that come from the state", the areas shared out once.
-use crate::AREAS;
 use crate::numbers::all_below;
 use crate::numbers::all_differ;
 use rules::Partitions;
+use rules::limits::AREAS_MAX;
 ghost use mathlib.Core.Path.{_≡_};
 ghost use Rattle.rules.specs.WellFormed.{areasOk};
 ghost use Rattle.partition_sound.specs.Areas.{areasOf};
 
 // The spare area, then the partitions' areas.
-fn areas_of(ps: Partitions) -> [u64; 9]
+fn areas_of(ps: Partitions) -> [u64; AREAS_MAX]
     ensures { λ r. ⌜ r ≡ areasOf ps ⌝ }
 {
     [
@@ -29,7 +29,7 @@ pub fn areas_ok(ps: Partitions) -> bool
     ensures { λ r. ⌜ r ≡ areasOk ps ⌝ }
 {
     let areas = areas_of(ps);
-    if all_below(&areas, AREAS as u64) {
+    if all_below(&areas, AREAS_MAX as u64) {
         return all_differ(&areas);
     }
     false

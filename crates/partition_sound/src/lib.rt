@@ -2,33 +2,30 @@
 use areas::areas_ok;
 use lent::Table;
 use numbers::has;
+use places::in_use;
 use rules::Clock;
 use rules::Entry;
 use rules::Manager;
 use rules::Partition;
 use rules::Partitions;
 use rules::RwTxns;
-use txn_find::WRITERS_MAX;
-use txn_find::least;
+use rules::limits::ENTRIES_MAX;
+use rules::limits::PARTITIONS_MAX;
+use rules::limits::ROWS_MAX;
+use rules::limits::WRITERS_MAX;
 ghost use mathlib.Core.Path.{_≡_};
 ghost use mathlib.Core.Bool.{_&&_};
 ghost use lib.Dec.{leb};
 ghost use Rattle.rules.specs.Limits.{rowsMax, entriesMax};
-ghost use Rattle.partition_sound.specs.Sound.{epochsOf, epochsWith, epochOkBy, follows, beforeFirst, extentOf};
+ghost use Rattle.partition_sound.specs.Sound.{epochsOf, epochsWith, epochOkBy, follows, beforeFirst};
 ghost use Rattle.partition_sound.specs.Sound.{partitionsOk};
 
 mod areas;
 mod numbers;
 
-// The numbers of 01 that this crate tests: rules' partitionsMax, areasMax, rowsMax and entriesMax.
-const PARTITIONS: usize = 8;
-const AREAS: usize = 9;
-const ROWS: usize = 512;
-const ENTRIES: usize = 64;
-
 // The epochs of the read-write transactions (01: loads) that have a record.
 struct Epochs {
-    at: [u64; 32],
+    at: [u64; WRITERS_MAX],
     count: usize,
 }
 
@@ -36,8 +33,8 @@ struct Epochs {
 fn epochs_of(ts: RwTxns) -> Epochs
     ensures { λ r. ⌜ r ≡ epochsWith (epochsOf ts) ⌝ }
 {
-    let n = least(ts.count, WRITERS_MAX);
-    let mut at = [0u64; 32];
+    let n = in_use(ts.count, WRITERS_MAX);
+    let mut at = [0u64; WRITERS_MAX];
     let mut i: usize = 0;
     while i < n {
         at[i] = ts.at[i].epoch;
@@ -91,31 +88,10 @@ fn may_follow(c: Clock, epochs: &[u64], d: Entry, e: Entry) -> bool
 fn counts_ok(q: Partition) -> bool
     ensures { λ r. ⌜ r ≡ leb (q .rows) rowsMax && leb (q .entries) entriesMax ⌝ }
 {
-    if q.rows <= ROWS {
-        q.entries <= ENTRIES
+    if q.rows <= ROWS_MAX {
+        q.entries <= ENTRIES_MAX
     } else {
         false
-    }
-}
-
-// Where a partition's entries stand in the table.
-struct Extent {
-    base: usize,
-    count: usize,
-}
-
-// None where the area is none of the nine.
-fn find_extent(q: Partition) -> Extent
-    ensures { λ r. ⌜ r ≡ extentOf q ⌝ }
-{
-    let area = q.area;
-    if area < AREAS {
-        Extent {
-            base: ENTRIES * area,
-            count: q.entries,
-        }
-    } else {
-        Extent { base: 0, count: 0 }
     }
 }
 
@@ -143,14 +119,13 @@ pub fn partitions_ok(m: Manager, ps: Partitions, t: Table) -> bool
     let k = es.count;
     let epochs = &at[..k];
     let mut p: usize = 0;
-    'each: while p < PARTITIONS {
+    'each: while p < PARTITIONS_MAX {
         let q = ps.at[p];
         if !counts_ok(q) {
             return false;
         }
-        let x = find_extent(q);
-        let base = x.base;
-        let n = x.count;
+        let base = area::entry_base(q.area);
+        let n = q.entries;
         let mut last = before_first();
         let mut i: usize = 0;
         'entries: while i < n {

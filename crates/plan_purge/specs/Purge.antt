@@ -8,6 +8,7 @@ use lib.ListN.{replicate}
 use lib.Dec.{ltb}
 use Rattle.rules.specs.Limits.{areasMax, rowsMax, entriesMax}
 use Rattle.rules.specs.Rewrite.{skips}
+use Rattle.rules.specs.Store.{withPartitionsIn}
 use Rattle.rules.specs.declared.Answer.{Answer}
 use Rattle.rules.specs.declared.Answer.the-variants.{Rewritten, Skipped, Refused}
 use Rattle.rules.specs.declared.Entry.{Entry}
@@ -17,20 +18,21 @@ use Rattle.lent.specs.Entries.{none}
 use Rattle.lent.specs.declared.Table.{Table}
 use Rattle.rewrite_plan.specs.Plan.{spansIn, planOf, purgeEpochs}
 use Rattle.rewrite.specs.Kept.{rewrittenOf}
-use Rattle.visible.specs.declared.Area.{Area}
+use Rattle.area.specs.declared.Area.{Area}
 use Rattle.rewrite_plan.specs.declared.Plan.{Plan}
-use Rattle.compact.specs.Areas.{baseOf, areaAt, movedTo}
+use Rattle.partition.specs.Areas.{movedTo}
+use Rattle.area.specs.Area.{baseOf, areaAt}
 use Rattle.admit.specs.Admit.{admitted, byAdmission}
 use Rattle.plan_purge.specs.declared.Purge.{Purge}
 
 -- no entry
 abbrev pub noArea : Area
-noArea = record { at = replicate 64 none; count = 0 }
+noArea = record { at = replicate entriesMax none; count = 0 }
 
 -- of n entries none is written, and no row: an area is not apart from itself
 abbrev pub unwrittenPurge : State → ℕ → Answer → Purge
 unwrittenPurge s n answer = record {
-  answer = answer; state = s; old = noArea; plan = record { at = replicate 64 0 }; new = noArea;
+  answer = answer; state = s; old = noArea; plan = record { at = replicate entriesMax 0 }; new = noArea;
   entry = 0; past = n; from = 0; to = 0 }
 
 abbrev pub planAt : ℕ → Area → Plan
@@ -43,8 +45,7 @@ movedPurge s n p q a l =
     let spare = s .partitions .spare in
     record {
       answer = Rewritten (done .rows);
-      state = record {
-        manager = s .manager; partitions = movedTo p (done .rows) (done .area .count) (s .partitions) };
+      state = withPartitionsIn (movedTo p (done .rows) (done .area .count) (s .partitions)) s;
       old = a; plan = planAt l a; new = done .area;
       entry = baseOf entriesMax spare; past = n; from = baseOf rowsMax (q .area); to = baseOf rowsMax spare }
 

@@ -1,22 +1,20 @@
 // Purge (01 "Lots"), decided by value: what is refused or skipped, and what a rewrite puts into the spare area.
 ghost use mathlib.Core.Path.{_≡_};
+ghost use Rattle.rules.specs.Limits.{entriesMax};
 ghost use Rattle.lent.specs.Shapes.{saved};
 ghost use Rattle.rewrite.specs.Copied.{rowsCopied};
 ghost use Rattle.plan_purge.specs.Purge.{unwrittenPurge, movedPurge, purgeAt, purgePlan, placeOf, newOf};
-
 use admit::Admitted;
 use admit::admit;
-use admit::limits::ENTRIES_LENT;
+use area::Area;
 use lent::Table;
 use rewrite_plan::Plan;
 use rules::Answer;
 use rules::Entry;
 use rules::Partition;
 use rules::State;
-use visible::Area;
-
-// Rules' entriesMax.
-const ENTRIES: usize = 64;
+use rules::limits::ENTRIES_LENT;
+use rules::limits::ENTRIES_MAX;
 
 // What a purge answers and keeps, and what it is to write: the entries in use of `new` at index `entry` on, and the
 // rows that the plan keeps of `old`, which lie from row `from` on, at row `to` on. The index `past` is past the end.
@@ -40,9 +38,11 @@ fn unwritten(state: State, n: usize, answer: Answer) -> Purge
         epoch: 0,
         end: 0,
         mark: 0,
-    }; ENTRIES];
+    }; ENTRIES_MAX];
     let none = Area { at: at, count: 0 };
-    let plan = Plan { at: [0; ENTRIES] };
+    let plan = Plan {
+        at: [0; ENTRIES_MAX],
+    };
     Purge {
         answer: answer,
         state: state,
@@ -64,13 +64,13 @@ fn moved(state: State, n: usize, p: usize, q: Partition, a: Area, l: u64) -> Pur
     let spare = partitions.spare;
     let plan = rewrite_plan::purge_plan(a, l);
     let done = rewrite::keep::rewritten(a, plan);
-    let next = compact::areas::moved(partitions, p, done);
+    let new = done.area;
+    let next = partition::areas::moved(partitions, p, done.rows, new.count);
     let mut after = state;
     after.partitions = next;
-    let new = done.area;
-    let entry = compact::areas::entry_base(spare);
-    let from = compact::areas::row_base(q.area);
-    let to = compact::areas::row_base(spare);
+    let entry = area::entry_base(spare);
+    let from = area::row_base(q.area);
+    let to = area::row_base(spare);
     Purge {
         answer: Answer::Rewritten { rows: done.rows },
         state: after,
@@ -88,7 +88,7 @@ fn moved(state: State, n: usize, p: usize, q: Partition, a: Area, l: u64) -> Pur
 fn purge_at(state: State, t: Table, n: usize, p: usize, q: Partition) -> Purge
     ensures { λ r. ⌜ r ≡ purgeAt state t n p q ⌝ }
 {
-    let a = compact::areas::area_of(t, q);
+    let a = area::read(t, q);
     let l = state.manager.clock.lse;
     if rewrite_plan::skips(a, l) {
         return unwritten(state, n, Answer::Skipped { rows: q.rows });
@@ -108,7 +108,7 @@ pub fn purge_core(state: State, t: Table, n: usize, m: usize, p: u64) -> Purge
 }
 
 // The new entries, and where each goes, by calls: the walk of put_purge then knows no field of a purge.
-pub fn entries_of(w: Purge) -> [Entry; 64]
+pub fn entries_of(w: Purge) -> [Entry; ENTRIES_MAX]
     ensures { λ r. ⌜ r ≡ newOf w ⌝ }
 {
     let new = w.new;
@@ -121,7 +121,7 @@ pub fn place_of(w: Purge, i: usize) -> usize
     if w.new.count <= i {
         return w.past;
     }
-    if ENTRIES <= i {
+    if ENTRIES_MAX <= i {
         return w.past;
     }
     if ENTRIES_LENT <= w.entry {
@@ -131,11 +131,11 @@ pub fn place_of(w: Purge, i: usize) -> usize
 }
 
 pub fn put_purge(entries: &mut [Entry], w: Purge)
-    ensures { λ _. ⌜ now (entries .exit) ≡ saved placeOf newOf (now (entries .entry)) w 64 ⌝ }
+    ensures { λ _. ⌜ now (entries .exit) ≡ saved placeOf newOf (now (entries .entry)) w entriesMax ⌝ }
 {
     let a = entries_of(w);
     let mut i = 0;
-    while i < ENTRIES {
+    while i < ENTRIES_MAX {
         let j = place_of(w, i);
         let e = a[i];
         lent::put_entry(entries, j, e);

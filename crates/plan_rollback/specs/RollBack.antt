@@ -9,6 +9,7 @@ use Rattle.rules.specs.Limits.{partitionsMax}
 use Rattle.rules.specs.Close.{rolledBackManager}
 use Rattle.rules.specs.Answers.{accepted}
 use Rattle.rules.specs.Calls.{closeAnswer}
+use Rattle.rules.specs.Store.{withManagerIn, withPartitionsIn}
 use Rattle.rules.specs.declared.Answer.{Answer}
 use Rattle.rules.specs.declared.Entry.{Entry}
 use Rattle.rules.specs.declared.State.{State}
@@ -30,7 +31,7 @@ leftAlone a s t n i = record {
 abbrev pub carriedOut : Answer → State → Table → ℕ → ℕ → RollBack
 carriedOut a s t n i = record {
   answer = a;
-  state = record { manager = rolledBackManager i (s .manager); partitions = rolledFrom i s t .partitions };
+  state = withManagerIn (rolledBackManager i (s .manager)) (withPartitionsIn (rolledFrom i s t .partitions) s);
   table = rolledFrom i s t .table; old = t; places = s .partitions; txn = i; todo = 1; past = n }
 
 unfoldable pub rollBackOf : State → Table → ℕ → ℕ → ℕ → RollBack

@@ -1,16 +1,18 @@
 // Roll back (01 "The books", "Lots"), decided by value: what is refused, and all entries and rows after it.
 ghost use mathlib.Core.Path.{_≡_};
 ghost use mathlib.Core.Bool.{cond};
+ghost use Prim.Native.Nat.{_*_};
+ghost use Rattle.rules.specs.Limits.{areasMax, entriesMax};
 ghost use Rattle.rules.specs.Answers.{accepted};
 ghost use Rattle.lent.specs.Shapes.{saved};
 ghost use Rattle.plan_rollback.specs.RollBack.{rollBackOf, placeOf, entriesAfter, rowsAfter};
-
 use admit::sound;
 use lent::Table;
 use rules::Answer;
 use rules::Entry;
 use rules::Partitions;
 use rules::State;
+use rules::limits::ENTRIES_LENT;
 
 // What the call answers and keeps, and all entries after it. old and places are the entries and partitions before it,
 // from which the rows follow. todo is 1 where the call is accepted, else 0; past is an index past the end.
@@ -40,7 +42,7 @@ pub fn roll_back_core(state: State, t: Table, n: usize, m: usize, i: u64) -> Rol
 {
     let rest = sound::rest_ok(state, t, n, m);
     let places = state.partitions;
-    let done = txn_close::roll_back(state.manager, rest, i);
+    let done = txn_close::close_txn(state.manager, rest, i, false);
     let answer = done.answer;
     let todo = todo_of(answer);
     if todo == 0 {
@@ -59,7 +61,9 @@ pub fn roll_back_core(state: State, t: Table, n: usize, m: usize, i: u64) -> Rol
     let rolled = undo::roll(t, places, i);
     let table = rolled.table;
     let partitions = rolled.partitions;
-    let after = State { manager: next, partitions: partitions };
+    let mut after = state;
+    after.manager = next;
+    after.partitions = partitions;
     RollBack {
         answer: answer,
         state: after,
@@ -82,18 +86,19 @@ pub fn place_of(w: RollBack, i: usize) -> usize
     w.past
 }
 
-pub fn entries_after(w: RollBack) -> [Entry; 576]
+pub fn entries_after(w: RollBack) -> [Entry; ENTRIES_LENT]
     ensures { λ r. ⌜ r ≡ entriesAfter w ⌝ }
 {
     w.table.at
 }
 
 pub fn put_roll_back(entries: &mut [Entry], w: RollBack)
-    ensures { λ _. ⌜ now (entries .exit) ≡ saved placeOf entriesAfter (now (entries .entry)) w 576 ⌝ }
+    ensures { λ _. ⌜ now (entries .exit)
+        ≡ saved placeOf entriesAfter (now (entries .entry)) w (entriesMax * areasMax) ⌝ }
 {
     let a = entries_after(w);
     let mut i = 0;
-    while i < 576 {
+    while i < ENTRIES_LENT {
         let j = place_of(w, i);
         let e = a[i];
         lent::put_entry(entries, j, e);

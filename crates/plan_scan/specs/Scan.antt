@@ -4,11 +4,12 @@
 -- Assumes nothing.
 use mathlib.Core.Bool.{Bool, _&&_, cond}
 use mathlib.Core.List.{List, _++_}
-use Prim.Native.Nat.{ℕ}
+use Prim.Native.Nat.{ℕ, _/_}
 use lib.ListN.{length, take, drop, replicate}
 use lib.Dec.{ltb, leb}
 use Rattle.lists.specs.Lists.{firstOf}
 use Rattle.rules.specs.Manager.{opens, noRw, writersOf, hasOpen, hasReader, epochAt}
+use Rattle.rules.specs.Limits.{rowsMax}
 use Rattle.rules.specs.Bitmap.{bytesFor}
 use Rattle.rules.specs.declared.Answer.the-variants.{Scanned, Refused}
 use Rattle.rules.specs.declared.Refusal.{Refusal}
@@ -21,13 +22,17 @@ use Rattle.lent.specs.declared.Table.{Table}
 use Rattle.visible.specs.declared.View.{View}
 use Rattle.visible.specs.View.{pageView}
 use Rattle.visible.specs.Scan.{scanned, bitmapScanned}
-use Rattle.compact.specs.Areas.{areaAt}
+use Rattle.area.specs.Area.{areaAt}
 use Rattle.admit.specs.Admit.{admitted, byAdmission}
 use Rattle.plan_scan.specs.declared.Look.{Look}
 
+-- the bytes that a partition's rows need at most
+abbrev pub bitmapMax : ℕ
+bitmapMax = rowsMax / 8
+
 -- the bytes of a partition's rows, all 0
 abbrev pub noBits : List ℕ
-noBits = replicate 64 0
+noBits = replicate bitmapMax 0
 
 abbrev pub refusedLook : Refusal → Look
 refusedLook why = record { answer = Refused why; bits = noBits; count = 0 }
@@ -56,6 +61,6 @@ rwLook s t n m k i p = lookBy (hasOpen i (s .manager)) (rwView i (s .manager)) s
 unfoldable pub roLook : State → Table → ℕ → ℕ → ℕ → ℕ → ℕ → Look
 roLook s t n m k i p = lookBy (hasReader i (s .manager)) (roView i (s .manager)) s t n m k p
 
--- the first n of 64 bytes over those lent, where so many are
+-- the first n of the bytes over those lent, where so many are
 unfoldable pub copied : ℕ → List ℕ → List ℕ → List ℕ
-copied n bits lent = cond (leb n 64 && leb n (length lent)) (take n bits ++ drop n lent) lent
+copied n bits lent = cond (leb n bitmapMax && leb n (length lent)) (take n bits ++ drop n lent) lent

@@ -1,7 +1,6 @@
 // Scans (01 "Who sees a row"), decided by value: what is refused, and the bytes that a call writes.
 ghost use mathlib.Core.Path.{_≡_};
 ghost use Rattle.plan_scan.specs.Scan.{refusedLook, lookAt, rwLook, roLook, copied};
-
 use admit::Admitted;
 use admit::admit;
 use lent::Table;
@@ -9,15 +8,16 @@ use rules::Answer;
 use rules::Partition;
 use rules::Refusal;
 use rules::State;
+use rules::limits::ROWS_MAX;
 use visible::View;
 
-// The bytes that rules' rowsMax rows need.
-const BITMAP: usize = 64;
+// The bytes that a partition's rows need at most.
+const BITMAP_MAX: usize = ROWS_MAX / 8;
 
 // What a scan answers, and the first count bytes that it writes.
 pub struct Look {
     pub answer: Answer,
-    pub bits: [u8; 64],
+    pub bits: [u8; BITMAP_MAX],
     pub count: usize,
 }
 
@@ -27,7 +27,7 @@ fn refused(why: Refusal) -> Look
 {
     Look {
         answer: Answer::Refused(why),
-        bits: [0; BITMAP],
+        bits: [0; BITMAP_MAX],
         count: 0,
     }
 }
@@ -41,11 +41,18 @@ fn scan_partition(t: Table, q: Partition, v: View, k: usize) -> Look
     if k < count {
         return refused(Refusal::ShortBitmap);
     }
-    let es = compact::areas::area_of(t, q);
-    let mut bits = [0u8; BITMAP];
+    let es = area::read(t, q);
+    let mut bits = [0u8; BITMAP_MAX];
     let done = visible::scan(v, es, rows, &mut bits);
-    let answer = Answer::Scanned { rows: rows, ones: done.ones };
-    Look { answer: answer, bits: bits, count: count }
+    let answer = Answer::Scanned {
+        rows: rows,
+        ones: done.ones,
+    };
+    Look {
+        answer: answer,
+        bits: bits,
+        count: count,
+    }
 }
 
 // Transaction i scans partition p.
@@ -58,7 +65,11 @@ pub fn rw_core(state: State, t: Table, n: usize, m: usize, k: usize, i: u64, p: 
         Admitted::Not(why) => refused(why),
         Admitted::To(q) => {
             let deps = txn_find::deps_at(state.manager, i);
-            let v = View { epoch: i, rw: 1, deps: deps };
+            let v = View {
+                epoch: i,
+                rw: 1,
+                deps: deps,
+            };
             scan_partition(t, q, v, k)
         }
     }
@@ -85,7 +96,7 @@ pub fn write_bits(bitmap: &mut [u8], w: Look)
     ensures { λ _. ⌜ now (bitmap .exit) ≡ copied (w .count) (w .bits) (now (bitmap .entry)) ⌝ }
 {
     let n = w.count;
-    if BITMAP < n {
+    if BITMAP_MAX < n {
         return;
     }
     if bitmap.len() < n {

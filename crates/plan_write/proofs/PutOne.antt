@@ -43,12 +43,12 @@ use denote.Exit.{yes}
 use Rattle.rules.specs.declared.Entry.{Entry}
 use Rattle.rules.proofs.Entry as T
 use Rattle.rules.proofs.Entry.Laws as T′
-use Rattle.lent.proofs.Locals.{envOf}
-use Rattle.lent.proofs.Frame.{asLocals, allocs-frame, passes-frame, frees-frame, within, sets, get}
-use Rattle.lent.proofs.Lend.{Lent, lent-by, token, mutAt, refOf, valOf, reborrow}
-use Rattle.lent.proofs.Calls.{plain-call, mut-call, Plainly, Writes}
-use Rattle.lent.proofs.Core.{held, has-plan}
-use Rattle.lent.proofs.Shown.{Shown}
+use Rattle.walks.proofs.Locals.{envOf}
+use Rattle.walks.proofs.Frame.{asLocals, allocs-frame, passes-frame, frees-frame, within, sets, get}
+use Rattle.walks.proofs.Lend.{Lent, lent-by, token, mutAt, refOf, valOf, reborrow, held}
+use Rattle.walks.proofs.Calls.{plain-call, mut-call, Plainly, Writes}
+use Rattle.walks.proofs.Shown.{Shown}
+use Rattle.walks.proofs.Values.{has-one as has-plan}
 use Rattle.lent.proofs.put_entry as put-entry
 use Rattle.lent.proofs.put_entry.Symbol.{name as #lent·put-entry}
 

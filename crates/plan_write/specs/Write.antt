@@ -2,14 +2,13 @@
 -- In order: a refusal, a plan, append, clear. Laws: store/proofs/Laws/Write.antt.
 -- Assumes nothing.
 use mathlib.Core.Bool.{cond}
-use mathlib.Core.List.{List}
 use Prim.Native.Nat.{ℕ}
 use Rattle.rules.specs.Manager.{hasOpen}
+use Rattle.rules.specs.Store.{withPartitionsIn}
 use Rattle.rules.specs.declared.Answer.{Answer}
 use Rattle.rules.specs.declared.Answer.the-variants.{Appended, Cleared, Refused}
 use Rattle.rules.specs.declared.Refusal.{Refusal}
 use Rattle.rules.specs.declared.Refusal.the-variants.{RowsFull, EntriesFull}
-use Rattle.rules.specs.declared.Entry.{Entry}
 use Rattle.rules.specs.declared.Partition.{Partition}
 use Rattle.rules.specs.declared.State.{State}
 use Rattle.lent.specs.Entries.{none}
@@ -28,8 +27,8 @@ refusedWrite s n m why = record { answer = Refused why; state = s; at = n; entry
 abbrev pub plannedWrite : State → ℕ → Partition → Plan → Answer → Write
 plannedWrite s p q plan answer = record {
   answer = answer;
-  state = record { manager = s .manager; partitions = withPartition p
-    (record { area = q .area; rows = plan .rows; entries = plan .entries }) (s .partitions) };
+  state = withPartitionsIn (withPartition p
+    (record { area = q .area; rows = plan .rows; entries = plan .entries }) (s .partitions)) s;
   at = plan .index; entry = plan .entry; row = plan .row }
 
 -- partition p, which is q: 8, 9

@@ -4,7 +4,6 @@ ghost use lib.ListN.{set};
 ghost use Rattle.rules.specs.Manager.{hasOpen};
 ghost use Rattle.partition.specs.Rows.{putRows};
 ghost use Rattle.plan_write.specs.Write.{refusedWrite, plannedWrite, appendAt, appendWrite, clearAt, clearWrite};
-
 use admit::Admitted;
 use admit::admit;
 use lent::Table;
@@ -73,7 +72,16 @@ fn is_open(state: State, i: u64) -> bool
 }
 
 // k rows by transaction i to partition p, which is q, on a sound store.
-fn append_at(state: State, t: Table, n: usize, m: usize, k: usize, i: u64, p: usize, q: Partition) -> Write
+fn append_at(
+    state: State,
+    t: Table,
+    n: usize,
+    m: usize,
+    k: usize,
+    i: u64,
+    p: usize,
+    q: Partition,
+) -> Write
     ensures { λ r. ⌜ r ≡ appendAt state t n m k i p q ⌝ }
 {
     let plan = partition::append::append_plan(t, q, i, k);
@@ -107,7 +115,9 @@ fn clear_at(state: State, n: usize, m: usize, i: u64, p: usize, q: Partition) ->
     if plan.full.entries {
         return refused(state, n, m, Refusal::EntriesFull);
     }
-    let answer = Answer::Cleared { entries: plan.entries };
+    let answer = Answer::Cleared {
+        entries: plan.entries,
+    };
     planned(state, p, q, plan, answer)
 }
 
@@ -154,5 +164,4 @@ pub fn write_rows(rows: &mut [u64], batch: &[u64], w: Write)
 // A clearing writes no row.
 pub fn keep_rows(rows: &mut [u64], w: Write)
     ensures { λ _. ⌜ now (rows .exit) ≡ now (rows .entry) ⌝ }
-{
-}
+{}

@@ -1,4 +1,3 @@
-pub mod Parts
 pub mod Replay
 pub mod Rooms
 pub mod Shown

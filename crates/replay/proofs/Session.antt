@@ -14,20 +14,19 @@ use Rattle.rules.specs.Claim.{Agrees, history, isOpenIn, ledgerOf, shownBy}
 use Rattle.rules.specs.Ledger.{Ledger, newLedger}
 use Rattle.rules.specs.Limits.{rowsMax, areasMax, partitionsMax}
 use Rattle.rules.specs.Step.{run}
-use Rattle.rules.specs.Store.{Store, partitionAt}
+use Rattle.rules.specs.Store.{Store, partitionAt, createdState}
 use Rattle.rules.specs.declared.Command.the-variants.{Scan}
 use Rattle.rules.specs.declared.Reader.{Reader}
 use Rattle.rules.proofs.History.{history-shows}
-use Rattle.rules.proofs.Corollaries.{follows-history}
+use Rattle.rules.proofs.Promises.{follows-history}
 use Rattle.rules.proofs.Laws.Sound.{rows-room}
 use Rattle.lent.specs.Entries.{filled0}
 use Rattle.session_text.specs.Grammar.{parsed}
-use Rattle.session_text.specs.Lines.{lineOf}
-use Rattle.session_text.specs.Print.{letterOf, valuesOf, printed}
+use Rattle.session_text.specs.Print.{lineOf, printed}
 use Rattle.session_text.specs.declared.Parsed.the-variants.{Call as Is}
 use Rattle.store.specs.Kept.{storeOf}
 use Rattle.replay.specs.Replay.{bits, callsOf, afterLines, answerTo}
-use Rattle.replay.specs.Start.{blank, started}
+use Rattle.replay.specs.Start.{started}
 use Rattle.replay.proofs.Laws.Replay.{lines-run}
 use Rattle.replay.proofs.Laws.Start.{start-accepted}
 
@@ -47,7 +46,7 @@ module _ (rows : List ℕ) (size : length rows ≡ rowsMax * areasMax) (lines : 
 
   pub session-agrees : (r : Reader) (p : ℕ) → p < partitionsMax → Agrees after ledgerIn r p bits
   unfolding started
-  session-agrees r p h = let st = storeOf blank rows filled0 in let calls = gather callsOf lines in
+  session-agrees r p h = let st = storeOf (createdState 1) rows filled0 in let calls = gather callsOf lines in
       let end = run calls (started rows .store) in
       let room = rows-room end (follows-history 1 st (start-accepted rows size) calls .ok) p h in
       rw (lines-run lines (started rows .store)) (history-shows st 1 (start-accepted rows size) calls r p bits h
@@ -55,7 +54,7 @@ module _ (rows : List ℕ) (size : length rows ≡ rowsMax * areasMax) (lines : 
 
   pub session-shows : (line : List ℕ) (r : Reader) (p n : ℕ) → parsed line ≡ Is (Scan r p) n → p < partitionsMax
       → isOpenIn r ledgerIn ≡ true → answerTo line after ≡ lineOf 83 0 (shownBy r p ledgerIn)
-  unfolding answerTo printed letterOf valuesOf
+  unfolding answerTo printed
   session-shows line r p n is h o = let agrees = session-agrees r p h in
       let zero = agrees .admits .1 o in
       rw is (rw (zero, agrees .shows o))

@@ -4,12 +4,10 @@
 use mathlib.Core.List.{List, [], _∷_, _++_}
 use Prim.Native.Nat.{ℕ}
 use lib.ListN.{drop, replicate}
-use Rattle.rules.specs.Claim.{scanned}
-use Rattle.rules.specs.Step.{Call, callOf, step}
+use Rattle.rules.specs.Claim.{wordsScanned}
+use Rattle.rules.specs.Step.{Call, callOf, step, onScanCommand}
 use Rattle.rules.specs.Store.{Store}
 use Rattle.rules.specs.declared.Command.{Command}
-use Rattle.rules.specs.declared.Command.the-variants.{Create, Begin, Append, Clear, Commit, RollBack}
-use Rattle.rules.specs.declared.Command.the-variants.{BeginRo, EndRo, Scan, AdvanceLse, Purge}
 use Rattle.rules.specs.declared.Reader.{Reader}
 use Rattle.session_text.specs.Grammar.{numbersIn, parsed}
 use Rattle.session_text.specs.Print.{printed, question}
@@ -26,30 +24,16 @@ bits = replicate 64 0
 abbrev pub callIn : List ℕ → Command → Call
 callIn line c = callOf c (drop 2 (numbersIn line)) bits
 
--- f of a scan, d of another call
-abbrev pub onScan : {A : Type 0} → Command → (Reader → ℕ → A) → A → A
-onScan (Create s) f d = d
-onScan Begin f d = d
-onScan (Append i p) f d = d
-onScan (Clear i p) f d = d
-onScan (Commit i) f d = d
-onScan (RollBack i) f d = d
-onScan (BeginRo e) f d = d
-onScan (EndRo t) f d = d
-onScan (Scan r p) f d = f r p
-onScan (AdvanceLse t) f d = d
-onScan (Purge p) f d = d
-
 -- the rows that a scan shows: those at the ones of its bitmap
-abbrev pub shownBy : Command → Store → List ℕ
-shownBy c st = onScan c (λ (r : Reader) (p : ℕ). scanned r p bits st) []
+abbrev pub rowsShown : Command → Store → List ℕ
+rowsShown c st = onScanCommand c (λ (r : Reader) (p : ℕ). wordsScanned r p bits st) []
 
 abbrev pub afterIs : List ℕ → Parsed → Store → Store
 afterIs line (Is c n) st = step (callIn line c) st .store
 afterIs line Bad st = st
 
 abbrev pub answerIs : List ℕ → Parsed → Store → List ℕ
-answerIs line (Is c n) st = printed c (step (callIn line c) st .answer) (shownBy c st)
+answerIs line (Is c n) st = printed c (step (callIn line c) st .answer) (rowsShown c st)
 answerIs line Bad st = question
 
 -- the store after it

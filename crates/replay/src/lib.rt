@@ -1,16 +1,13 @@
-// A session on slices: a line answered, and a buffer of lines. 01 "A session".
-mod least;
-mod limits;
-mod line;
+// A session on slices: its start, a buffer of lines answered, what is left of it. 01 "A session".
+pub mod limits;
 mod lines;
 mod opening;
 mod rest;
 mod shown;
 
-pub use line::Answered;
-pub use line::answer_line;
 pub use lines::Replayed;
 pub use lines::replay;
 pub use opening::start;
 pub use rest::keep_rest;
+pub use shown::area_of;
 pub use shown::shown_rows;

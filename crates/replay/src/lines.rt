@@ -1,5 +1,6 @@
 // A buffer of lines, one answered after the other. 01 "A session".
 use crate::limits::ANSWER_MAX;
+use crate::limits::BITMAP_MAX;
 use crate::limits::NUMBERS_MAX;
 use crate::shown::print_answer;
 use dispatch::Turned;
@@ -79,7 +80,7 @@ pub fn replay(
                 command,
                 rows: count,
             } => {
-                let mut bitmap = [0u8; 64];
+                let mut bitmap = [0u8; BITMAP_MAX];
                 let last = 2 + count;
                 kept = turn(
                     kept.state,

@@ -1,6 +1,6 @@
 // What is left of a buffer after its whole lines: the front of a line that is yet to come. 01 "A session".
-use crate::least::least;
 use crate::limits::KEPT_MAX;
+use places::in_use;
 ghost use mathlib.Core.Path.{_≡_};
 ghost use lib.ListN.{length};
 ghost use Rattle.lists.specs.Lists.{over};
@@ -18,7 +18,7 @@ pub fn keep_rest(buffer: &mut [u8], from: usize, to: usize) -> usize
     if buffer.len() < from {
         return 0;
     }
-    let n = least(least(KEPT_MAX, to - from), buffer.len() - from);
+    let n = in_use(in_use(KEPT_MAX, to - from), buffer.len() - from);
     let mut i = 0;
     while i < n {
         buffer[i] = buffer[from + i];

@@ -5,13 +5,16 @@ ghost use Rattle.lists.specs.Lists.{over};
 ghost use Rattle.rules.specs.Claim.{bitAt, wordsAtOnes};
 ghost use Rattle.session_text.specs.Lines.{sizeIn, writtenIn};
 ghost use Rattle.session_text.specs.Print.{printed};
-ghost use Rattle.replay.specs.Shown.{shownWords, fitting, rowsIn, areaOf, shownIn};
-use crate::least::least;
-use crate::limits::PARTITIONS_MAX;
-use crate::limits::ROWS_MAX;
+ghost use Rattle.replay.specs.Shown.{shownWords, fitting, areaOf, shownIn};
+use places::in_use;
+use reply::reply_of;
 use rules::Answer;
 use rules::Command;
 use rules::Partitions;
+use rules::limits::PARTITIONS_MAX;
+use rules::limits::ROWS_MAX;
+use session_text::letter_of;
+use session_text::print_line;
 
 // Bit i of a bitmap, row 0 lowest in byte 0; past its end there are no ones.
 fn is_one(bitmap: &[u8], i: usize) -> bool
@@ -64,62 +67,22 @@ pub fn shown_rows(rows: &[u64], area: usize, n: usize, bitmap: &[u8], out: &mut 
         return 0;
     }
     let from = ROWS_MAX * area;
-    let end = from + least(least(n, ROWS_MAX), rows.len() - from);
+    let end = from + in_use(in_use(n, ROWS_MAX), rows.len() - from);
     pick(&rows[from..end], bitmap, out)
 }
 
-// How many rows a scan counted.
-fn rows_of(answer: Answer) -> usize
-    ensures { λ r. ⌜ r ≡ rowsIn answer ⌝ }
-{
-    match answer {
-        Answer::Scanned { rows, ones: _ } => rows,
-        _ => 0,
-    }
-}
-
 // The area of partition p, 0 past the last.
-fn area_of(partitions: Partitions, p: u64) -> usize
+pub fn area_of(partitions: Partitions, p: u64) -> usize
     ensures { λ r. ⌜ r ≡ areaOf partitions p ⌝ }
 {
-    if PARTITIONS_MAX <= p {
+    if PARTITIONS_MAX as u64 <= p {
         return 0;
     }
     partitions.at[p as usize].area
 }
 
-// The rows that a command shows, once it is answered: those of a scan, and of no other.
-fn show(
-    command: Command,
-    answer: Answer,
-    partitions: Partitions,
-    rows: &[u64],
-    bitmap: &[u8],
-    out: &mut [u64],
-) -> usize
-    ensures answer { λ r. let ws = fitting (shownIn command answer partitions (now (bitmap .entry))
-        (now (rows .entry))) (now (out .entry)) in
-        ⌜ r ≡ length ws ⌝ }
-    ensures words { λ _. let ws = fitting (shownIn command answer partitions (now (bitmap .entry))
-        (now (rows .entry))) (now (out .entry)) in
-        ⌜ now (out .exit) ≡ over 0 ws (now (out .entry)) ⌝ }
-{
-    match command {
-        Command::Scan {
-            reader: _,
-            partition,
-        } => shown_rows(
-            rows,
-            area_of(partitions, partition),
-            rows_of(answer),
-            bitmap,
-            out,
-        ),
-        _ => 0,
-    }
-}
-
-// The line that answers a command, at the front of `out`, with the rows that it shows, which `numbers` holds then.
+// The line that answers a command, at the front of `out`. The rows that a scan shows stand then at the front of
+// `numbers`.
 pub(crate) fn print_answer(
     command: Command,
     answer: Answer,
@@ -130,17 +93,32 @@ pub(crate) fn print_answer(
     out: &mut [u8],
 ) -> usize
     ensures size { λ r. let ws = fitting (shownIn command answer partitions (now (bitmap .entry)) (now (rows .entry)))
-          (now (numbers .entry)) in
+        (now (numbers .entry)) in
         ⌜ r ≡ sizeIn (printed command answer ws) (now (out .entry)) ⌝ }
     ensures bytes { λ _. let ws = fitting (shownIn command answer partitions (now (bitmap .entry))
         (now (rows .entry)))
-          (now (numbers .entry)) in
+        (now (numbers .entry)) in
         ⌜ now (out .exit) ≡ writtenIn (printed command answer ws) (now (out .entry)) ⌝ }
     ensures words { λ _. let ws = fitting (shownIn command answer partitions (now (bitmap .entry))
         (now (rows .entry)))
-          (now (numbers .entry)) in
+        (now (numbers .entry)) in
         ⌜ now (numbers .exit) ≡ over 0 ws (now (numbers .entry)) ⌝ }
 {
-    let n = show(command, answer, partitions, rows, bitmap, numbers);
-    session_text::print(command, answer, &numbers[..n], out)
+    let letter = letter_of(command);
+    let reply = reply_of(answer);
+    let values = reply.values;
+    match command {
+        Command::Scan {
+            reader: _,
+            partition,
+        } => {
+            let area = area_of(partitions, partition);
+            let n = shown_rows(rows, area, values[0] as usize, bitmap, numbers);
+            print_line(letter, reply.number, &numbers[..n], out)
+        }
+        _ => {
+            let count = reply.count;
+            print_line(letter, reply.number, &values[..count], out)
+        }
+    }
 }

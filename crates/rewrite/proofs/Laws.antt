@@ -2,7 +2,7 @@ pub mod Ends
 pub mod Back
 pub mod Keep
 pub mod Kept
-pub mod Over
 pub mod Copied
 pub mod Blank
 pub mod Store
+pub mod Partition

@@ -10,9 +10,9 @@ use Rattle.lists.specs.Lists.{part, over}
 use Rattle.rules.specs.Limits.{rowsMax}
 use Rattle.rules.specs.Span.{spans, wordsOf}
 use Rattle.rules.specs.declared.Entry.{Entry}
-use Rattle.visible.specs.Bare.{entriesIn}
+use Rattle.area.specs.Area.{entriesIn}
 use Rattle.rewrite.specs.Kept.{kept, endsFit}
-use Rattle.visible.specs.declared.Area.{Area}
+use Rattle.area.specs.declared.Area.{Area}
 use Rattle.rewrite_plan.specs.declared.Plan.{Plan}
 
 -- the words of the spans that the plan keeps, in order

@@ -12,8 +12,10 @@ use Rattle.rules.specs.Limits.{rowsMax, entriesMax}
 use Rattle.rules.specs.Span.{Span, isDelete, entriesOf, wordsOf}
 use Rattle.rules.specs.Rewrite.{joined}
 use Rattle.rules.specs.declared.Entry.{Entry}
-use Rattle.visible.specs.Bare.{entriesIn, noEntry, bare}
-use Rattle.visible.specs.declared.Area.{Area}
+use Rattle.visible.specs.Bare.{bare}
+use Rattle.lent.specs.Entries.{none}
+use Rattle.area.specs.Area.{entriesIn}
+use Rattle.area.specs.declared.Area.{Area}
 use Rattle.rewrite_plan.specs.declared.Plan.{Plan}
 use Rattle.rewrite.specs.declared.Rewritten.{Rewritten}
 
@@ -34,7 +36,7 @@ endsFit n (e ∷ es) = leb n (e .end) && endsFit (e .end) es
 
 -- spans as an area with no more entries than they are
 abbrev pub areaOf : List Span → Area
-areaOf ss = record { at = pad entriesMax noEntry (entriesOf 0 ss); count = length ss }
+areaOf ss = record { at = pad entriesMax none (entriesOf 0 ss); count = length ss }
 
 abbrev pub asRewritten : List Span → Rewritten
 asRewritten ss = record { area = areaOf ss; rows = length (wordsOf ss) }

@@ -1,12 +1,11 @@
 // The kept rows, copied inside the lent rows from the area of a partition to another. 01 "Lots", Roll back,
 // Purge.
-use crate::ENTRIES_MAX;
-use crate::ROWS_MAX;
 use crate::ends::ends_fit;
+use area::Area;
+use places::in_use;
 use rewrite_plan::Plan;
-use visible::Area;
-use visible::places::in_use;
-
+use rules::limits::ENTRIES_MAX;
+use rules::limits::ROWS_MAX;
 ghost use mathlib.Core.Path.{_≡_};
 ghost use mathlib.Core.Bool.{true, cond};
 ghost use mathlib.Core.Logic.{_⊎_};
@@ -48,7 +47,7 @@ fn copy_entries(rows: &mut [u64], a: Area, n: usize, p: Plan, from: usize, to: u
         (areasApart from to (length (now rows)) ≡ true) ⌝ }
     ensures { λ _. ⌜ now (rows .exit)
         ≡ over to (keptWords (p .at) (take n (a .at)) (part from rowsMax (now (rows .entry))))
-            (now (rows .entry)) ⌝ }
+        (now (rows .entry)) ⌝ }
 {
     let mut done = 0;
     let mut start = 0;

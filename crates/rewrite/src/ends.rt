@@ -1,7 +1,6 @@
 // Whether the ends of entries never fall and lie within the rows of an area. 01 *sound*.
-use crate::ROWS_MAX;
-use visible::Area;
-
+use area::Area;
+use rules::limits::ROWS_MAX;
 ghost use mathlib.Core.Path.{_≡_};
 ghost use Prim.Native.Nat.{_≤_};
 ghost use lib.ListN.{take};

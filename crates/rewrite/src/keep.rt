@@ -1,12 +1,11 @@
 // The entries that a plan keeps, one after the other. 01 "Lots", Roll back, Purge.
-use crate::ENTRIES_MAX;
 use crate::Rewritten;
 use crate::ends::ends_fit;
+use area::Area;
+use places::in_use;
 use rewrite_plan::Plan;
 use rules::Entry;
-use visible::Area;
-use visible::places::in_use;
-
+use rules::limits::ENTRIES_MAX;
 ghost use mathlib.Core.Path.{_≡_};
 ghost use mathlib.Core.Bool.{true};
 ghost use Prim.Native.Nat.{_+_, _-_, _≤_, _<_};
@@ -16,6 +15,7 @@ ghost use Rattle.rewrite.specs.Kept.{endsFit, keptOf, rewrittenOf};
 ghost use Rattle.rewrite.specs.Passes.{joinsLast, pushed, stepped};
 
 const ROWS: u64 = 0;
+
 const DELETE: u64 = 1;
 
 // The last entry kept so far, its index, how many are kept and how many rows they have.
@@ -45,11 +45,29 @@ fn push(last: Last, p: u64, e: Entry, rows: usize) -> Last
 {
     let n = last.count;
     if e.mark == 1 {
-        let x = Entry { epoch: p, end: rows, mark: DELETE };
-        return Last { place: n, count: n + 1, rows: rows, entry: x };
+        let x = Entry {
+            epoch: p,
+            end: rows,
+            mark: DELETE,
+        };
+        return Last {
+            place: n,
+            count: n + 1,
+            rows: rows,
+            entry: x,
+        };
     }
-    let y = Entry { epoch: p, end: rows, mark: ROWS };
-    Last { place: n, count: n + 1, rows: rows, entry: y }
+    let y = Entry {
+        epoch: p,
+        end: rows,
+        mark: ROWS,
+    };
+    Last {
+        place: n,
+        count: n + 1,
+        rows: rows,
+        entry: y,
+    }
 }
 
 // The entry e, whose rows begin at row `from`, with the epoch p that the plan has for it.
@@ -63,8 +81,17 @@ fn step(last: Last, p: u64, e: Entry, from: usize) -> Last
     let rows = last.rows + (e.end - from);
     let x = last.entry;
     if joins(x, p, e) {
-        let z = Entry { epoch: p, end: rows, mark: ROWS };
-        return Last { place: last.place, count: last.count, rows: rows, entry: z };
+        let z = Entry {
+            epoch: p,
+            end: rows,
+            mark: ROWS,
+        };
+        return Last {
+            place: last.place,
+            count: last.count,
+            rows: rows,
+            entry: z,
+        };
     }
     push(last, p, e, rows)
 }
@@ -74,9 +101,18 @@ fn keep(a: Area, n: usize, plan: Plan) -> Rewritten
     requires { ⌜ (n ≤ entriesMax) × (endsFit 0 (take n (a .at)) ≡ true) ⌝ }
     ensures { λ r. ⌜ r ≡ keptOf (plan .at) (take n (a .at)) ⌝ }
 {
-    let none = Entry { epoch: 0, end: 0, mark: ROWS };
+    let none = Entry {
+        epoch: 0,
+        end: 0,
+        mark: ROWS,
+    };
     let mut out = [none; ENTRIES_MAX];
-    let mut last = Last { place: 0, count: 0, rows: 0, entry: none };
+    let mut last = Last {
+        place: 0,
+        count: 0,
+        rows: 0,
+        entry: none,
+    };
     let mut from = 0;
     let mut k = 0;
     while k < n {
@@ -89,8 +125,14 @@ fn keep(a: Area, n: usize, plan: Plan) -> Rewritten
         from = e.end;
         k += 1;
     }
-    let area = Area { at: out, count: last.count };
-    Rewritten { area: area, rows: last.rows }
+    let area = Area {
+        at: out,
+        count: last.count,
+    };
+    Rewritten {
+        area: area,
+        rows: last.rows,
+    }
 }
 
 // The entries that the plan keeps, with the epochs that it has for them: ends lowered, neighbouring rows of

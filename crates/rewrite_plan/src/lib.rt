@@ -1,29 +1,26 @@
 // What a roll back and a purge do with each entry of a partition, and whether they have anything to do. 01 "Lots",
 // Roll back, Purge; 004 III-C 4, 5.
+use area::Area;
+use places::in_use;
 use rules::Entry;
-use visible::Area;
+use rules::limits::ENTRIES_MAX;
 use visible::delete::Top;
 use visible::delete::find_top;
 use visible::delete::hides;
 use visible::page;
-use visible::places::in_use;
-
 ghost use mathlib.Core.Path.{_≡_};
 ghost use mathlib.Core.Bool.{not, _&&_};
 ghost use lib.Dec.{leb, eqb};
 ghost use Rattle.rules.specs.Rewrite.{hasEpoch, skips as skipping};
-ghost use Rattle.rules.proofs.Laws.TopDelete.{covers};
+ghost use Rattle.rules.specs.Top.{covers};
 ghost use Rattle.visible.specs.Bare.{bareSpan};
 ghost use Rattle.visible.specs.Passes.{asTop};
 ghost use Rattle.rewrite_plan.specs.Plan.{spansIn, planOf, rollEpoch, rollEpochs, purgeEpoch, purgeEpochs};
 
-// The entries that an area has room for: rules' entriesMax.
-const ENTRIES_MAX: usize = 64;
-
 // For the entry at each index: 0 where it goes, else its new epoch.
 #[repr(C)]
 pub struct Plan {
-    pub at: [u64; 64],
+    pub at: [u64; ENTRIES_MAX],
 }
 
 // ---- whether there is anything to do

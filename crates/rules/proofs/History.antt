@@ -4,7 +4,7 @@
 -- history-shows.
 -- Assumes nothing.
 use mathlib.Core.Path.{_≡_, sym, _∙_, ap}
-use mathlib.Core.Bool.{true, _&&_, cond}
+use mathlib.Core.Bool.{true, _&&_}
 use mathlib.Core.List.{List, [], _∷_}
 use Prim.Native.Nat.{ℕ, _≤_, _<_}
 use native.Mathlib.Omega.{arith}
@@ -12,72 +12,53 @@ use lib.ListN.{length}
 use borrow.Author.Tests.{eqb-true, eq-eqb}
 use Rattle.lists.proofs.Laws.Bools.{split}
 use Rattle.rules.specs.Limits.{partitionsMax}
-use Rattle.rules.specs.Close.{committedManager, rolledBackManager}
+use Rattle.rules.specs.Close.{rolledBackManager}
 use Rattle.rules.specs.Store.{Store, managerOf, partitionAt}
 use Rattle.rules.specs.Bitmap.{bytesFor}
 use Rattle.rules.specs.Answers.{replyOf, accepted}
 use Rattle.rules.specs.WellFormed.{wellFormed, lengthsOk}
-use Rattle.rules.specs.Calls.{createAnswer, beginAnswer, closeAnswer, beginRoAnswer, endRoAnswer}
-use Rattle.rules.specs.Calls.{advanceLseAnswer, appendAnswer, clearAnswer, purgeAnswer, isReader}
+use Rattle.rules.specs.Calls.{createAnswer, closeAnswer}
+use Rattle.rules.specs.Calls.{appendAnswer, clearAnswer, purgeAnswer, isReader}
 use Rattle.rules.specs.Calls.{seesOf}
 use Rattle.rules.specs.Calls.{appliesOf}
-use Rattle.rules.specs.Step.{Call, create, begin, append, clear, commit, rollback, beginRo, endRo, scan}
-use Rattle.rules.specs.Step.{advanceLse, purge, step, run}
+use Rattle.rules.specs.Step.{Call, create, manage, append, clear, rollback, scan, purge, step, run}
 use Rattle.rules.specs.Ledger.{Ledger, heard, newLedger, linesAt}
 use Rattle.rules.specs.Claim.{eventOf, history, ledgerOf, shownBy, Agrees, HistoryShows}
 use Rattle.rules.specs.declared.Reader.{Reader}
-use Rattle.rules.specs.declared.Answer.{Answer}
 use Rattle.rules.proofs.Laws.Lines.{shows-ext}
 use Rattle.rules.proofs.Laws.Safe.{low-sees, low-applies}
 use Rattle.rules.proofs.Laws.Shown.{spansShow, scan-admits, scan-counts, scan-spans}
-use Rattle.rules.proofs.Laws.Calls.{create-passed, begin-passed, close-passed, begin-ro-passed}
-use Rattle.rules.proofs.Laws.Calls.{advance-passed}
+use Rattle.rules.proofs.Laws.Calls.{create-passed, close-passed}
 use Rattle.rules.proofs.Laws.Calls.{append-passed, clear-passed, purge-passed}
-use Rattle.rules.proofs.Laws.Tracks.{alive, ledgerSees, ledgerApplies, shownBy-tests, tracks-admits}
+use Rattle.rules.proofs.Laws.Tracks.{alive, shownBy-tests, tracks-admits}
+use Rattle.rules.specs.Promises.{ledgerSees, ledgerApplies}
 use Rattle.rules.proofs.Laws.Tracks.{tracks-sees}
 use Rattle.rules.proofs.Laws.Tracks.{tracks-applies}
 use Rattle.rules.proofs.Laws.PartitionFollows.{follows-shown}
-use Rattle.rules.proofs.Laws.Follows.{Follows, follows-create, follows-begin, follows-commit}
+use Rattle.rules.proofs.Laws.ManagerCalls.{both-or, manager-follows}
+use Rattle.rules.proofs.Laws.Follows.{Follows, follows-create}
 use Rattle.rules.proofs.Laws.Follows.{follows-rollback}
-use Rattle.rules.proofs.Laws.Follows.{follows-begin-ro, follows-end-ro, follows-advance}
 use Rattle.rules.proofs.Laws.Follows.{follows-append}
 use Rattle.rules.proofs.Laws.Follows.{follows-clear, follows-purge}
 
 -- ---- a call
 
--- an accepted call changes both, a refused one neither
-either : (a : Answer) {st next : Store} {g later : Ledger} → Follows st g → (accepted a ≡ true → Follows next later)
-    → Follows (cond (accepted a) next st) (cond (accepted a) later g)
-either a F h = split (accepted a) (λ t. rw t (h t)) (λ f. rw f F)
-
 pub follows-step : (c : Call) {st : Store} {g : Ledger} → Follows st g
     → Follows (step c st .store) (heard (eventOf c (replyOf (step c st .answer))) g)
 unfolding step heard eventOf
-follows-step (create s) {st} F = either (createAnswer s (lengthsOk st)) F
+follows-step (create s) {st} F = both-or (createAnswer s (lengthsOk st)) F
   (λ t. let k = create-passed s (lengthsOk st) t in follows-create s st (k .sound) (k .low) (k .high))
-follows-step begin {st} F = either (beginAnswer (wellFormed st) (managerOf st)) F
-  (λ t. let k = begin-passed (wellFormed st) (managerOf st) t in rw (k .is) (follows-begin F (k .last) (k .room)))
-follows-step (append i p batch) {st} F = either (appendAnswer i p batch st) F
+follows-step (manage c) F = manager-follows c F
+follows-step (append i p batch) {st} F = both-or (appendAnswer i p batch st) F
   (λ t. let k = append-passed i p st batch (λ w h. let q = F .ok .partition p h in let c = q .row-count in let n =
       q .spans-ok .rows-fit in omega arith) t in
     follows-append F i p (k .write .partition) (k .write .pending) batch (k .rows) (k .entries))
-follows-step (clear i p) {st} F = either (clearAnswer i p st) F
+follows-step (clear i p) {st} F = both-or (clearAnswer i p st) F
   (λ t. let k = clear-passed i p st t in follows-clear F i p (k .0 .partition) (k .0 .pending) (k .1))
-follows-step (commit i) {st} F = either (closeAnswer i (wellFormed st) (managerOf st) (committedManager i
-    (managerOf st))) F
-  (λ t. follows-commit F i (close-passed i (wellFormed st) (managerOf st) _ t .pending))
-follows-step (rollback i) {st} F = either (closeAnswer i (wellFormed st) (managerOf st) (rolledBackManager i
+follows-step (rollback i) {st} F = both-or (closeAnswer i (wellFormed st) (managerOf st) (rolledBackManager i
     (managerOf st))) F
   (λ t. follows-rollback F i (close-passed i (wellFormed st) (managerOf st) _ t .pending))
-follows-step (beginRo e) {st} F = either (beginRoAnswer e (wellFormed st) (managerOf st)) F
-  (λ t. let k = begin-ro-passed e (wellFormed st) (managerOf st) t in
-    rw (k .is) (follows-begin-ro F e (k .low) (k .high) (k .last) (k .room)))
-follows-step (endRo t) {st} F = either (endRoAnswer t (wellFormed st) (managerOf st)) F (λ _. follows-end-ro F t)
 follows-step (scan r p lent) F = F
-follows-step (advanceLse t) {st} {g} F = split (accepted (advanceLseAnswer t (wellFormed st) (managerOf st)))
-  (λ a. let k = advance-passed t (wellFormed st) (managerOf st) a in rw a (follows-advance F t (k .low) (k .high)
-      (k .free)))
-  (λ f. rw f F)
 follows-step (purge p) {st} F = split (accepted (purgeAnswer p st))
   (λ a. rw a (follows-purge F p (purge-passed p st a .1)))
   (λ f. rw f F)

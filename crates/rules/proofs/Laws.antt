@@ -1,3 +1,4 @@
+pub mod Answers
 pub mod Append
 pub mod Begin
 pub mod Bitmap
@@ -13,6 +14,8 @@ pub mod LinesOf
 pub mod LinesPurge
 pub mod Live
 pub mod Manager
+pub mod ManagerCalls
+pub mod NotUnsound
 pub mod PartitionFollows
 pub mod ReadOnly
 pub mod Rewrite
@@ -25,6 +28,7 @@ pub mod Span
 pub mod SpansOk
 pub mod SpansTest
 pub mod Stays
+pub mod Step
 pub mod Store
 pub mod TopDelete
 pub mod Tracks

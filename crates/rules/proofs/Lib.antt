@@ -3,4 +3,4 @@ pub mod Look
 pub mod Cases
 pub mod Edges
 pub mod History
-pub mod Corollaries
+pub mod Promises

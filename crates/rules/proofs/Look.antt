@@ -1,11 +1,10 @@
 -- How cases look at the store: a list of calls from a store made new, and a look at what they leave.
 -- `observed` opens every definition, so that a case is proved by computing.
 -- Assumes nothing.
-use mathlib.Core.Bool.{Bool, true, false, cond}
-use mathlib.Core.List.{List, [], _∷_, _++_, map}
+use mathlib.Core.Bool.{cond}
+use mathlib.Core.List.{List, [], _∷_, map}
 use Prim.Native.Nat.{ℕ, zero, suc, _*_}
 use lib.ListN.{replicate}
-use lib.Dec.{eqb}
 use Rattle.rules.specs.Limits.{rowsMax, entriesMax, areasMax, lastEpoch, lastTicket}
 use Rattle.rules.specs.Begin.{createdManager, begunManager}
 use Rattle.rules.specs.Close.{committedTxns, droppedTxns, settledLce, settled, committedManager}
@@ -20,16 +19,14 @@ use Rattle.rules.specs.Rewrite.{joinedOnto, joined, hasEpoch, rolledBack
 use Rattle.rules.specs.Bitmap.{bytesFor, byteOf, packed, bitmapAfter}
 use Rattle.rules.specs.Store.{Store, entriesAt, spansAt, laid, laidInPlace, laidInSpare, createdStore}
 use Rattle.rules.specs.Store.{rolledBackAt, rolledBackBelow, purgedStore}
-use Rattle.rules.specs.Answers.{replyOf}
+use Rattle.rules.specs.Answers.{replyOf, firstValue, secondValue}
 use Rattle.rules.specs.WellFormed.{clockOk, depsOk, statusOk, writersOk, readersOk, managerOk, areasOk}
 use Rattle.rules.specs.WellFormed.{epochOk, endsOk, apart, partitionOk, lengthsOk, wellFormed}
 use Rattle.rules.specs.Calls.{createAnswer, beginAnswer, appendAnswer, clearAnswer, closeAnswer}
 use Rattle.rules.specs.Calls.{beginRoAnswer, endRoAnswer, seesOf, appliesOf, flagsAt, scanAnswer}
 use Rattle.rules.specs.Calls.{advanceLseAnswer, purgeAnswer}
-use Rattle.rules.specs.Step.{Call, create, begin, append, clear, commit, rollback, beginRo, endRo, scan}
-use Rattle.rules.specs.Step.{advanceLse, purge, step, run}
-use Rattle.rules.specs.Claim.{bitAt, scanned, wordsAtOnes}
-use Rattle.rules.specs.declared.Entry.{Entry}
+use Rattle.rules.specs.Step.{Call, create, scan, onScan, step, run}
+use Rattle.rules.specs.Claim.{bitAt, wordsScanned, wordsAtOnes}
 use Rattle.rules.specs.declared.Reader.{Reader}
 
 -- a store made new at s, whatever words stood there before
@@ -40,23 +37,12 @@ made s =
       rows = replicate (rowsMax * areasMax) 77;
       entries = replicate (entriesMax * areasMax) (record { epoch = 9; end = 9; mark = 9 }) }) .store
 
--- ---- a call's line in 01's session: the number, then on 0 the value v; of a scan the words shown
-
-unfoldable pub values : Call → ℕ → Store → List ℕ
-values (create s) v st = []
-values begin v st = v ∷ []
-values (append i p batch) v st = v ∷ []
-values (clear i p) v st = v ∷ []
-values (commit i) v st = v ∷ []
-values (rollback i) v st = v ∷ []
-values (beginRo e) v st = v ∷ []
-values (endRo t) v st = v ∷ []
-values (scan r p lent) v st = scanned r p lent st
-values (advanceLse t) v st = v ∷ []
-values (purge p) v st = v ∷ []
+-- ---- a call's line in 01's session: the number, then the values; of a scan the words shown
 
 unfoldable pub line : Call → Store → List ℕ
-line c st = let r = replyOf (step c st .answer) in r .number ∷ cond (eqb (r .number) 0) (values c (r .value) st) []
+line c st =
+    let r = replyOf (step c st .answer) in
+    r .number ∷ onScan c (λ (v : Reader) (p : ℕ) (lent : List ℕ). wordsScanned v p lent st) (r .values)
 
 unfoldable pub lines : List Call → Store → List (List ℕ)
 lines [] st = []
@@ -82,10 +68,10 @@ bits (suc n) i bytes = cond (bitAt bytes i) 1 0 ∷ bits n (suc i) bytes
 unfoldable pub looked : Look → Store → List (List ℕ)
 looked (linesOf cs) st = lines cs st
 looked (bitsTo r p) st =
-    let out = step (scan r p (replicate 64 255)) st in bits (replyOf (out .answer) .value) 0 (out .bitmap) ∷ []
+    let out = step (scan r p (replicate 64 255)) st in bits (firstValue (replyOf (out .answer))) 0 (out .bitmap) ∷ []
 looked (bytesTo r p lent) st =
     let out = step (scan r p lent) st in
-    let reply = replyOf (out .answer) in (reply .number ∷ reply .value ∷ reply .second ∷ []) ∷ out .bitmap ∷ []
+    let reply = replyOf (out .answer) in (reply .number ∷ firstValue reply ∷ secondValue reply ∷ []) ∷ out .bitmap ∷ []
 looked (entriesIn p) st = map (λ e. e .epoch ∷ e .end ∷ e .mark ∷ []) (entriesAt p st)
 
 pub record Case : Type 0 where
@@ -95,7 +81,7 @@ pub record Case : Type 0 where
   pub expected : List (List ℕ)
 
 unfoldable pub observed : Case → List (List ℕ)
-unfolding made values line lines bits looked lastEpoch lastTicket createdManager begunManager committedTxns
+unfolding made line lines bits looked lastEpoch lastTicket createdManager begunManager committedTxns
     droppedTxns settledLce settled committedManager rolledBackManager snapshotEpoch begunRoManager
     endedRoManager blocked greatestTarget targetOf advancedManager spans entriesOf wordsOf extended appended
     cleared seesRw appliesRw hidden flagsIn flags joinedOnto joined hasEpoch rolledBack purgedIn purged skips

@@ -1,11 +1,12 @@
 -- 01's numbers and values for what a call answers. 01 "Refusals that come from the input", ".. from the
 -- state", and each call.
--- In order: refusalNumber (the one table of refusals), Reply, replyOf, accepted, livePart.
+-- In order: refusalNumber (the one table of refusals), Reply, replyOf (the one table of values), accepted, livePart.
+-- Laws: proofs/Laws/Answers.antt.
 -- Assumes nothing.
 use mathlib.Core.Bool.{Bool}
-use mathlib.Core.List.{List, []}
+use mathlib.Core.List.{List, [], _∷_}
 use Prim.Native.Nat.{ℕ}
-use lib.ListN.{take}
+use lib.ListN.{take, getD}
 use lib.Dec.{eqb}
 use Rattle.rules.specs.declared.Refusal.{Refusal}
 use Rattle.rules.specs.declared.Refusal.the-variants.{UnknownPartition, NotOpen, ShortBitmap}
@@ -28,29 +29,39 @@ refusalNumber RowsFull = 8
 refusalNumber EntriesFull = 9
 refusalNumber Blocked = 10
 
--- the number, and up to two values
+-- the number, and the values in 01's order
 pub record Reply : Type 0 where
   pub number : ℕ
-  pub value : ℕ
-  pub second : ℕ
+  pub values : List ℕ
 
-abbrev pub yields : ℕ → Reply
-yields v = record { number = 0; value = v; second = 0 }
+abbrev pub yields : List ℕ → Reply
+yields vs = record { number = 0; values = vs }
 
--- a refusal's values are 0
+-- a refusal has no values
 abbrev pub replyOf : Answer → Reply
-replyOf Created = yields 0
-replyOf (Begun epoch) = yields epoch
-replyOf (Appended rows) = yields rows
-replyOf (Cleared entries) = yields entries
-replyOf (Closed lce) = yields lce
-replyOf (BegunRo ticket) = yields ticket
-replyOf (EndedRo left) = yields left
-replyOf (Scanned rows ones) = record { number = 0; value = rows; second = ones }
-replyOf (AdvancedLse lse) = yields lse
-replyOf (Rewritten rows) = yields 1
-replyOf (Skipped rows) = yields 0
-replyOf (Refused r) = record { number = refusalNumber r; value = 0; second = 0 }
+replyOf Created = yields []
+replyOf (Begun epoch) = yields (epoch ∷ [])
+replyOf (Appended rows) = yields (rows ∷ [])
+replyOf (Cleared entries) = yields (entries ∷ [])
+replyOf (Closed lce) = yields (lce ∷ [])
+replyOf (BegunRo ticket) = yields (ticket ∷ [])
+replyOf (EndedRo left) = yields (left ∷ [])
+replyOf (Scanned rows ones) = yields (rows ∷ ones ∷ [])
+replyOf (AdvancedLse lse) = yields (lse ∷ [])
+replyOf (Rewritten rows) = yields (1 ∷ [])
+replyOf (Skipped rows) = yields (0 ∷ [])
+replyOf (Refused r) = record { number = refusalNumber r; values = [] }
+
+-- the most values that an answer has
+abbrev pub valuesMax : ℕ
+valuesMax = 2
+
+-- where there is no such value it is 0, and so are a refusal's
+abbrev pub firstValue : Reply → ℕ
+firstValue r = getD (r .values) 0 0
+
+abbrev pub secondValue : Reply → ℕ
+secondValue r = getD (r .values) 1 0
 
 abbrev pub accepted : Answer → Bool
 accepted a = eqb (replyOf a .number) 0

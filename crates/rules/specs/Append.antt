@@ -1,7 +1,7 @@
 -- Append and clear, on spans. 01 "Lots", Append, Clear; 004 III-C 1, 2.
 -- In order: appended, cleared. Laws: proofs/Laws/Append.antt.
 -- Assumes nothing.
-use mathlib.Core.Bool.{Bool, true, false, not, _&&_, cond}
+use mathlib.Core.Bool.{Bool, not, _&&_, cond}
 use mathlib.Core.List.{List, [], _∷_, _++_}
 use Prim.Native.Nat.{ℕ}
 use lib.Dec.{eqb}

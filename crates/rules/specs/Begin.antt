@@ -3,24 +3,19 @@
 -- Assumes nothing.
 use mathlib.Core.List.{List, [], _∷_, _++_}
 use Prim.Native.Nat.{ℕ, suc, _-_}
-use lib.ListN.{replicate}
-use Rattle.rules.specs.Limits.{writersMax, readersMax}
-use Rattle.rules.specs.Manager.{noRw, noRo, writersOf, withClock, withEc, withWriters, depsWith}
+use Rattle.rules.specs.Manager.{rwTxn, emptyManager, writersOf, withClock, withEc, withWriters}
 use Rattle.rules.specs.Manager.{openEpochs}
 use Rattle.rules.specs.declared.RwTxn.{RwTxn}
 use Rattle.rules.specs.declared.Manager.{Manager}
 
 -- making new at s: EC = s, LCE = LSE = s − 1, no transaction, next ticket 1
 unfoldable pub createdManager : ℕ → Manager
-createdManager s = record {
-  clock = record { ec = s; lce = s - 1; lse = s - 1 };
-  writers = record { at = replicate writersMax noRw; count = 0 };
-  readers = record { at = replicate readersMax noRo; count = 0; next = 1 } }
+createdManager s = emptyManager (record { ec = s; lce = s - 1; lse = s - 1 })
 
 -- the record of a transaction that begins at epoch e beside the transactions ts: its deps are the epochs open
 -- just before
 abbrev pub begunTxn : ℕ → List RwTxn → RwTxn
-begunTxn e ts = record { epoch = e; waiting = 0; deps = depsWith (openEpochs ts) }
+begunTxn e ts = rwTxn e 0 (openEpochs ts)
 
 -- begin: the clock hands out EC and steps it by one
 unfoldable pub begunManager : Manager → Manager

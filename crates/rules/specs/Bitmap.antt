@@ -1,7 +1,7 @@
 -- The bitmap that a scan writes, byte for byte. 01 "Who sees a row", last paragraph.
 -- In order: bytesFor, byteOf, packed, bitmapAfter. Laws: proofs/Laws/Bitmap.antt.
 -- Assumes nothing.
-use mathlib.Core.Bool.{Bool, true, false, cond}
+use mathlib.Core.Bool.{Bool, cond}
 use mathlib.Core.List.{List, [], _∷_, _++_}
 use Prim.Native.Nat.{ℕ, zero, suc, _+_, _*_, _/_}
 use lib.ListN.{length, take, drop}

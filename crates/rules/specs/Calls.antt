@@ -1,11 +1,11 @@
 -- Each call: its answer, refusals in 01's order, a line a number. 01 "Refusals" and the sections of the
 -- calls.
--- In order: create, begin, close (commit and roll back), begin and end read-only, advance LSE; append, clear,
--- purge; scan.
+-- In order: create, begin, close (commit and roll back), begin and end read-only, advance LSE, and those that change
+-- only the manager as one; append, clear, purge; scan.
 -- Laws: proofs/Laws/Calls.antt.
 -- Assumes nothing.
-use mathlib.Core.Bool.{Bool, true, false, not, _&&_, cond}
-use mathlib.Core.List.{List, [], _∷_}
+use mathlib.Core.Bool.{Bool, false, not, _&&_, cond}
+use mathlib.Core.List.{List}
 use Prim.Native.Nat.{ℕ, suc, _+_, _-_}
 use lib.ListN.{length}
 use lib.Dec.{ltb, leb, eqb}
@@ -13,9 +13,11 @@ use Rattle.lists.specs.Lists.{ones}
 use Rattle.rules.specs.Limits.{lastEpoch, lastTicket, writersMax, readersMax, partitionsMax, rowsMax}
 use Rattle.rules.specs.Limits.{entriesMax}
 use Rattle.rules.specs.Manager.{hasOpen, depsAt, hasReader, epochAt}
-use Rattle.rules.specs.ReadOnly.{snapshotEpoch, endedRoManager}
-use Rattle.rules.specs.Safe.{blocked, targetOf}
-use Rattle.rules.specs.Span.{Span, wordsOf}
+use Rattle.rules.specs.Begin.{begunManager}
+use Rattle.rules.specs.Close.{committedManager}
+use Rattle.rules.specs.ReadOnly.{snapshotEpoch, begunRoManager, endedRoManager}
+use Rattle.rules.specs.Safe.{blocked, targetOf, advancedManager}
+use Rattle.rules.specs.Span.{wordsOf}
 use Rattle.rules.specs.Append.{appended}
 use Rattle.rules.specs.Sees.{seesRw, appliesRw, upTo}
 use Rattle.rules.specs.Hides.{flags}
@@ -26,6 +28,8 @@ use Rattle.rules.specs.WellFormed.{wellFormed}
 use Rattle.rules.specs.declared.Manager.{Manager}
 use Rattle.rules.specs.declared.Reader.{Reader}
 use Rattle.rules.specs.declared.Reader.the-variants.{Rw, Ro}
+use Rattle.rules.specs.declared.ManagerCall.{ManagerCall}
+use Rattle.rules.specs.declared.ManagerCall.the-variants.{Begin, Commit, BeginRo, EndRo, AdvanceLse}
 use Rattle.rules.specs.declared.Refusal.{Refusal}
 use Rattle.rules.specs.declared.Refusal.the-variants.{UnknownPartition, NotOpen, ShortBitmap}
 use Rattle.rules.specs.declared.Refusal.the-variants.{OutOfRange, Unsound, Exhausted, TxnsFull}
@@ -85,6 +89,21 @@ advanceLseAnswer t sound m =
     (refuse OutOfRange (not (within (m .clock .lse) (m .clock .lce) (targetOf t m)))
     (refuse Blocked (blocked (targetOf t m) m)
     (AdvancedLse (targetOf t m))))
+
+-- the calls that change nothing but the manager: what each answers, and the manager that it leaves once accepted
+abbrev pub managerAnswer : ManagerCall → Bool → Manager → Answer
+managerAnswer Begin sound m = beginAnswer sound m
+managerAnswer (Commit i) sound m = closeAnswer i sound m (committedManager i m)
+managerAnswer (BeginRo e) sound m = beginRoAnswer e sound m
+managerAnswer (EndRo t) sound m = endRoAnswer t sound m
+managerAnswer (AdvanceLse t) sound m = advanceLseAnswer t sound m
+
+abbrev pub managerAfter : ManagerCall → Manager → Manager
+managerAfter Begin m = begunManager m
+managerAfter (Commit i) m = committedManager i m
+managerAfter (BeginRo e) m = begunRoManager e m
+managerAfter (EndRo t) m = endedRoManager t m
+managerAfter (AdvanceLse t) m = advancedManager t m
 
 -- ---- calls on a partition
 

@@ -1,38 +1,38 @@
 -- Demand 3 as one statement: after every list of calls, what a scan shows is what the ledger shows.
--- 01 "The ledger of demand 3", first and last paragraphs. In order: eventOf, history, wordsAtOnes, Agrees,
--- HistoryShows.
+-- 01 "The ledger of demand 3", first and last paragraphs. In order: eventOf, history, wordsAtOnes,
+-- wordsScanned, Agrees, HistoryShows. What it comes to for readers: Promises.antt.
 -- Assumes nothing.
 use mathlib.Core.Path.{_≡_}
 use mathlib.Core.Logic.{_↔_}
-use mathlib.Core.Bool.{Bool, true, false, cond}
+use mathlib.Core.Bool.{Bool, true, cond}
 use mathlib.Core.List.{List, [], _∷_}
-use Prim.Native.Nat.{ℕ, suc, _+_, _*_, _/_, _%_, _^_, _≤_, _<_}
+use Prim.Native.Nat.{ℕ, suc, _/_, _%_, _^_, _≤_, _<_}
 use lib.ListN.{length, take, getD}
 use lib.Dec.{eqb}
 use Rattle.rules.specs.Limits.{partitionsMax}
-use Rattle.rules.specs.Answers.{Reply, replyOf, accepted}
+use Rattle.rules.specs.Answers.{Reply, replyOf, firstValue, secondValue, accepted}
 use Rattle.rules.specs.Bitmap.{bytesFor}
 use Rattle.rules.specs.Store.{Store, partitionAt}
-use Rattle.rules.specs.Step.{Call, create, begin, append, clear, commit, rollback, beginRo, endRo, scan}
-use Rattle.rules.specs.Step.{advanceLse, purge, areaRows, step, run}
-use Rattle.rules.specs.Ledger.{Ledger, Event, newAt, began, added, deleted, committed, rolledBack}
-use Rattle.rules.specs.Ledger.{opened, closed, other, heard, newLedger, hasWriter, hasReader}
+use Rattle.rules.specs.Step.{Call, create, manage, append, clear, rollback, scan, purge, areaRows, step, run}
+use Rattle.rules.specs.Ledger.{Ledger, Event, newAt, began, added, deleted, committed, aborted}
+use Rattle.rules.specs.Ledger.{opened, closed, other, heard, newLedger, hasOpenRw, hasOpenRo}
 use Rattle.rules.specs.Ledger.{writerShows, readerShows}
+use Rattle.rules.specs.declared.ManagerCall.the-variants.{Begin, Commit, BeginRo, EndRo, AdvanceLse}
 use Rattle.rules.specs.declared.Reader.{Reader}
 use Rattle.rules.specs.declared.Reader.the-variants.{Rw, Ro}
 
 -- what the ledger is told of a call and its reply
 unfoldable pub eventOf : Call → Reply → Event
 eventOf (create s) r = newAt (r .number) s
-eventOf begin r = began (r .number) (r .value)
+eventOf (manage Begin) r = began (r .number) (firstValue r)
 eventOf (append i p batch) r = added (r .number) i p batch
 eventOf (clear i p) r = deleted (r .number) i p
-eventOf (commit i) r = committed (r .number) i
-eventOf (rollback i) r = rolledBack (r .number) i
-eventOf (beginRo e) r = opened (r .number) e (r .value)
-eventOf (endRo t) r = closed (r .number) t
+eventOf (manage (Commit i)) r = committed (r .number) i
+eventOf (rollback i) r = aborted (r .number) i
+eventOf (manage (BeginRo e)) r = opened (r .number) e (firstValue r)
+eventOf (manage (EndRo t)) r = closed (r .number) t
 eventOf (scan v p lent) r = other
-eventOf (advanceLse t) r = other
+eventOf (manage (AdvanceLse t)) r = other
 eventOf (purge p) r = other
 
 -- what the history of a list of calls tells it
@@ -55,25 +55,25 @@ wordsAtOnes bytes n (w ∷ ws) =
     let rest = wordsAtOnes bytes (suc n) ws in cond (bitAt bytes n) (w ∷ rest) rest
 
 abbrev pub isOpenIn : Reader → Ledger → Bool
-isOpenIn (Rw i) g = hasWriter i g
-isOpenIn (Ro t) g = hasReader t g
+isOpenIn (Rw i) g = hasOpenRw i g
+isOpenIn (Ro t) g = hasOpenRo t g
 
 abbrev pub shownBy : Reader → ℕ → Ledger → List ℕ
 shownBy (Rw i) p g = writerShows i p g
 shownBy (Ro t) p g = readerShows t p g
 
 -- the words of partition p's area, as many as the scan counted rows, at the ones that it wrote
-abbrev pub scanned : Reader → ℕ → List ℕ → Store → List ℕ
-scanned r p lent st =
+abbrev pub wordsScanned : Reader → ℕ → List ℕ → Store → List ℕ
+wordsScanned r p lent st =
     let out = step (scan r p lent) st in
-    wordsAtOnes (out .bitmap) 0 (take (replyOf (out .answer) .value) (areaRows (partitionAt p st .area) st))
+    wordsAtOnes (out .bitmap) 0 (take (firstValue (replyOf (out .answer))) (areaRows (partitionAt p st .area) st))
 
 -- a scan by r of partition p, lent these bytes, beside the ledger: accepted exactly for an open reader, and
 -- then with as many ones as the ledger shows rows, and the words at the ones those that the ledger shows
 pub record Agrees (st : Store) (g : Ledger) (r : Reader) (p : ℕ) (lent : List ℕ) : Type 0 where
   pub admits : replyOf (step (scan r p lent) st .answer) .number ≡ 0 ↔ isOpenIn r g ≡ true
-  pub counts : isOpenIn r g ≡ true → replyOf (step (scan r p lent) st .answer) .second ≡ length (shownBy r p g)
-  pub shows : isOpenIn r g ≡ true → scanned r p lent st ≡ shownBy r p g
+  pub counts : isOpenIn r g ≡ true → secondValue (replyOf (step (scan r p lent) st .answer)) ≡ length (shownBy r p g)
+  pub shows : isOpenIn r g ≡ true → wordsScanned r p lent st ≡ shownBy r p g
 
 -- Demand 3. From any store, unsound ones included, on which making new at s is accepted; for every list of
 -- calls; for every partition, every reader and every lent bitmap of the bytes that the rows need, whatever it

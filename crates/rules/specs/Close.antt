@@ -3,18 +3,18 @@
 -- In order: committedTxns, droppedTxns, settledLce, settled, committedManager, rolledBackManager. Laws:
 -- proofs/Laws/Close.antt.
 -- Assumes nothing.
-use mathlib.Core.Bool.{Bool, true, false, not, _&&_, _||_, cond}
-use mathlib.Core.List.{List, [], _∷_, map, foldr}
+use mathlib.Core.Bool.{Bool, not, _&&_, _||_, cond}
+use mathlib.Core.List.{List, [], map, foldr}
 use Prim.Native.Nat.{ℕ, max}
 use lib.Dec.{ltb, leb}
 use Rattle.lists.specs.Lists.{keepIf, allOf}
-use Rattle.rules.specs.Manager.{noDeps, isOpen, opens, writersOf, withClock, withLce, withWriters}
+use Rattle.rules.specs.Manager.{rwTxn, isOpen, opens, writersOf, withClock, withLce, withWriters}
 use Rattle.rules.specs.declared.RwTxn.{RwTxn}
 use Rattle.rules.specs.declared.Manager.{Manager}
 
 -- committed, it waits: it drops its deps and keeps its place
 abbrev pub waitingTxn : ℕ → RwTxn
-waitingTxn e = record { epoch = e; waiting = 1; deps = noDeps }
+waitingTxn e = rwTxn e 1 []
 
 unfoldable pub committedTxns : ℕ → List RwTxn → List RwTxn
 committedTxns i ts = map (λ t. cond (opens i t) (waitingTxn i) t) ts

@@ -1,7 +1,7 @@
 -- Which rows a delete hides, and which a reader is shown. 01 "Who sees a row".
 -- In order: hidden, flags. Laws: proofs/Laws/Hides.antt.
 -- Assumes nothing.
-use mathlib.Core.Bool.{Bool, true, false, not, _&&_, _||_}
+use mathlib.Core.Bool.{Bool, not, _&&_, _||_}
 use mathlib.Core.List.{List, [], _∷_, _++_}
 use Prim.Native.Nat.{ℕ}
 use lib.ListN.{length, replicate}

@@ -2,7 +2,7 @@
 -- It shares nothing with the store but lists and numbers. In order: lines, Ledger, Event, heard, what it
 -- shows.
 -- Assumes nothing.
-use mathlib.Core.Bool.{Bool, true, false, not, _&&_, _||_, cond}
+use mathlib.Core.Bool.{Bool, false, not, _&&_, _||_, cond}
 use mathlib.Core.List.{List, [], _∷_, _++_, map, foldr}
 use Prim.Native.Nat.{ℕ, _-_, max}
 use lib.ListN.{getD, set, replicate}
@@ -36,7 +36,7 @@ pub data Event : Type 0 where
   added : (number i p : ℕ) → List ℕ → Event
   deleted : (number i p : ℕ) → Event
   committed : (number i : ℕ) → Event
-  rolledBack : (number i : ℕ) → Event
+  aborted : (number i : ℕ) → Event
   opened : (number e ticket : ℕ) → Event
   closed : (number t : ℕ) → Event
   other : Event
@@ -47,12 +47,12 @@ abbrev pub withLines : List (List Line) → Ledger → Ledger
 withLines ls g =
     record { start = g .start; committed = g .committed; writers = g .writers; readers = g .readers; lines = ls }
 
-abbrev pub withWriters : List ℕ → List Snapshot → Ledger → Ledger
-withWriters cs ws g =
+abbrev pub withOpenRw : List ℕ → List Snapshot → Ledger → Ledger
+withOpenRw cs ws g =
     record { start = g .start; committed = cs; writers = ws; readers = g .readers; lines = g .lines }
 
-abbrev pub withReaders : List Snapshot → Ledger → Ledger
-withReaders rs g =
+abbrev pub withOpenRo : List Snapshot → Ledger → Ledger
+withOpenRo rs g =
     record { start = g .start; committed = g .committed; writers = g .writers; readers = rs; lines = g .lines }
 
 -- ---- what an accepted call changes
@@ -82,13 +82,13 @@ latest g = foldr max (g .start - 1) (keepIf (λ c. not (anyOf (λ w. ltb (w .nam
 abbrev pub withBegun : ℕ → Ledger → Ledger
 withBegun i g =
     let marks = i ∷ keepIf (λ c. ltb c i) (g .committed) in
-    withWriters (g .committed) (record { name = i; marks = marks } ∷ g .writers) g
+    withOpenRw (g .committed) (record { name = i; marks = marks } ∷ g .writers) g
 
 -- those committed by then with an epoch of at most e, where 0 is the latest
 abbrev pub withOpened : ℕ → ℕ → Ledger → Ledger
 withOpened e t g =
     let upTo = cond (eqb e 0) (latest g) e in
-    withReaders (record { name = t; marks = keepIf (λ c. leb c upTo) (g .committed) } ∷ g .readers) g
+    withOpenRo (record { name = t; marks = keepIf (λ c. leb c upTo) (g .committed) } ∷ g .readers) g
 
 -- a refused call changes nothing
 abbrev pub ifAccepted : ℕ → Ledger → Ledger → Ledger
@@ -99,10 +99,10 @@ heard (newAt n s) g = ifAccepted n (newLedger s) g
 heard (began n i) g = ifAccepted n (withBegun i g) g
 heard (added n i p ws) g = ifAccepted n (withAdded p (map (row i) ws) g) g
 heard (deleted n i p) g = ifAccepted n (withAdded p (delete i ∷ []) g) g
-heard (committed n i) g = ifAccepted n (withWriters (i ∷ g .committed) (without i (g .writers)) g) g
-heard (rolledBack n i) g = ifAccepted n (withWriters (g .committed) (without i (g .writers)) g) g
+heard (committed n i) g = ifAccepted n (withOpenRw (i ∷ g .committed) (without i (g .writers)) g) g
+heard (aborted n i) g = ifAccepted n (withOpenRw (g .committed) (without i (g .writers)) g) g
 heard (opened n e t) g = ifAccepted n (withOpened e t g) g
-heard (closed n t) g = ifAccepted n (withReaders (without t (g .readers)) g) g
+heard (closed n t) g = ifAccepted n (withOpenRo (without t (g .readers)) g) g
 heard other g = g
 
 -- ---- what it shows
@@ -133,16 +133,16 @@ abbrev pub marksOf : ℕ → List Snapshot → List ℕ
 marksOf n ss = firstOf (named n) noSnapshot ss .marks
 
 -- an open read-write transaction does not apply its own delete
-abbrev pub hasWriter : ℕ → Ledger → Bool
-hasWriter i g = anyOf (named i) (g .writers)
+abbrev pub hasOpenRw : ℕ → Ledger → Bool
+hasOpenRw i g = anyOf (named i) (g .writers)
 
 unfoldable pub writerShows : ℕ → ℕ → Ledger → List ℕ
 writerShows i p g =
     let marks = marksOf i (g .writers) in
     shows (λ j. elem j marks) (λ k. elem k marks && not (eqb k i)) (linesAt p g)
 
-abbrev pub hasReader : ℕ → Ledger → Bool
-hasReader t g = anyOf (named t) (g .readers)
+abbrev pub hasOpenRo : ℕ → Ledger → Bool
+hasOpenRo t g = anyOf (named t) (g .readers)
 
 unfoldable pub readerShows : ℕ → ℕ → Ledger → List ℕ
 readerShows t p g =

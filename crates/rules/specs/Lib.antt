@@ -8,6 +8,7 @@ pub mod Span
 pub mod Append
 pub mod Sees
 pub mod Hides
+pub mod Top
 pub mod Rewrite
 pub mod Bitmap
 pub mod Store
@@ -17,3 +18,4 @@ pub mod Calls
 pub mod Step
 pub mod Ledger
 pub mod Claim
+pub mod Promises

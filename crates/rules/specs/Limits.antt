@@ -2,7 +2,7 @@
 -- the state".
 -- Laws: proofs/Laws/Limits.antt.
 -- Assumes nothing.
-use Prim.Native.Nat.{ℕ, _*_}
+use Prim.Native.Nat.{ℕ}
 
 -- an epoch is 1 to lastEpoch, and EC stops one above
 unfoldable pub lastEpoch : ℕ

@@ -1,9 +1,9 @@
 -- The transaction manager (01: the books without the lots) read as lists, and written back. 01 "The books".
--- In order: transactions in use, setters, an open transaction, a read-only one. The only file that writes all
--- fields out.
+-- In order: records, transactions in use, setters, an open transaction, a read-only one. The only file that writes
+-- all fields of the manager and of its records out.
 -- Assumes nothing.
-use mathlib.Core.Bool.{Bool, true, false, not, _&&_}
-use mathlib.Core.List.{List, [], _∷_, map}
+use mathlib.Core.Bool.{Bool, _&&_}
+use mathlib.Core.List.{List, [], map}
 use Prim.Native.Nat.{ℕ}
 use lib.ListN.{length, take, replicate}
 use lib.Dec.{eqb}
@@ -12,20 +12,36 @@ use Rattle.rules.specs.Limits.{writersMax, readersMax, depsMax}
 use Rattle.rules.specs.declared.Clock.{Clock}
 use Rattle.rules.specs.declared.Deps.{Deps}
 use Rattle.rules.specs.declared.RwTxn.{RwTxn}
-use Rattle.rules.specs.declared.RwTxns.{RwTxns}
 use Rattle.rules.specs.declared.RoTxn.{RoTxn}
-use Rattle.rules.specs.declared.RoTxns.{RoTxns}
 use Rattle.rules.specs.declared.Manager.{Manager}
+
+-- ---- records: a list in its places, unused places 0
+
+abbrev pub depsWith : List ℕ → Deps
+depsWith ds = record { at = pad depsMax 0 ds; count = length ds }
+
+abbrev pub rwTxn : ℕ → ℕ → List ℕ → RwTxn
+rwTxn epoch waiting ds = record { epoch = epoch; waiting = waiting; deps = depsWith ds }
+
+abbrev pub roTxn : ℕ → ℕ → RoTxn
+roTxn ticket epoch = record { ticket = ticket; epoch = epoch }
 
 -- what stands in an unused place
 abbrev pub noDeps : Deps
-noDeps = record { at = replicate depsMax 0; count = 0 }
+noDeps = depsWith []
 
 abbrev pub noRw : RwTxn
-noRw = record { epoch = 0; waiting = 0; deps = noDeps }
+noRw = rwTxn 0 0 []
 
 abbrev pub noRo : RoTxn
-noRo = record { ticket = 0; epoch = 0 }
+noRo = roTxn 0 0
+
+-- no transaction yet, the next ticket 1
+abbrev pub emptyManager : Clock → Manager
+emptyManager c = record {
+  clock = c;
+  writers = record { at = replicate writersMax noRw; count = 0 };
+  readers = record { at = replicate readersMax noRo; count = 0; next = 1 } }
 
 -- ---- the places in use, as lists
 
@@ -39,9 +55,6 @@ abbrev pub depsOf : RwTxn → List ℕ
 depsOf t = take (t .deps .count) (t .deps .at)
 
 -- ---- setters: lists back into places, unused places 0
-
-abbrev pub depsWith : List ℕ → Deps
-depsWith ds = record { at = pad depsMax 0 ds; count = length ds }
 
 abbrev pub withClock : Clock → Manager → Manager
 withClock c m = record { clock = c; writers = m .writers; readers = m .readers }

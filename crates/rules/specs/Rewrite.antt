@@ -1,10 +1,10 @@
 -- Roll back and purge, on spans: what stays, joined. 01 "Lots", Roll back, Purge; 004 III-C 4, 5.
 -- In order: joined, rolledBack, purged, skips. Laws: proofs/Laws/Rewrite.antt.
 -- Assumes nothing.
-use mathlib.Core.Bool.{Bool, true, false, not, _&&_, _||_, cond}
+use mathlib.Core.Bool.{Bool, not, _&&_, cond}
 use mathlib.Core.List.{List, [], _∷_, _++_, foldr}
 use Prim.Native.Nat.{ℕ, max}
-use lib.Dec.{ltb, leb, eqb}
+use lib.Dec.{leb, eqb}
 use Rattle.lists.specs.Lists.{keepIf, anyOf, allOf}
 use Rattle.rules.specs.Span.{Span, isDelete}
 use Rattle.rules.specs.Append.{isRowsOf, rowsSpan}

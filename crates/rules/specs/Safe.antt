@@ -1,13 +1,12 @@
 -- How far LSE may move. 01 "The books", Move LSE; 004 III-C 5.
 -- In order: blocked, greatestTarget, targetOf, advancedManager. Laws: proofs/Laws/Safe.antt.
 -- Assumes nothing.
-use mathlib.Core.Bool.{Bool, true, false, _&&_, _||_, cond}
-use mathlib.Core.List.{List, [], _∷_, _++_, map, foldr}
+use mathlib.Core.Bool.{Bool, _&&_, _||_, cond}
+use mathlib.Core.List.{[], _++_, map, foldr}
 use Prim.Native.Nat.{ℕ, _-_, min}
 use lib.Dec.{ltb, leb, eqb}
 use Rattle.lists.specs.Lists.{gather, anyOf}
 use Rattle.rules.specs.Manager.{isOpen, depsOf, writersOf, readersOf, withClock, withLse}
-use Rattle.rules.specs.declared.RwTxn.{RwTxn}
 use Rattle.rules.specs.declared.Manager.{Manager}
 
 -- 01: held. A read-only transaction below t, or an open one with a dep at or below t, closed since or not.

@@ -1,7 +1,7 @@
 -- Which epochs a reader sees, and which deletes it applies. 01 "Who sees a row"; 004 III-C 3.
 -- In order: seesRw, appliesRw, upTo. Laws: proofs/Laws/Sees.antt.
 -- Assumes nothing.
-use mathlib.Core.Bool.{Bool, true, false, not, _&&_, _||_}
+use mathlib.Core.Bool.{Bool, not, _&&_, _||_}
 use mathlib.Core.List.{List}
 use Prim.Native.Nat.{ℕ}
 use lib.Dec.{ltb, leb, eqb}

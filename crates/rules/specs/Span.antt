@@ -2,7 +2,7 @@
 -- "Lots".
 -- In order: Span, spans, entriesOf, wordsOf. Laws: proofs/Laws/Span.antt (spans and entriesOf are inverse).
 -- Assumes nothing.
-use mathlib.Core.Bool.{Bool, true, false, not}
+use mathlib.Core.Bool.{Bool}
 use mathlib.Core.List.{List, [], _∷_}
 use Prim.Native.Nat.{ℕ, _+_, _-_}
 use lib.ListN.{length, take, drop}

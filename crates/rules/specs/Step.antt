@@ -1,57 +1,79 @@
 -- One call on the store, for all input, and a list of calls. 01 "Refusals": a refusal changes nothing.
--- In order: Call, callOf, Outcome, step, run. Laws: proofs/Laws/Sound.antt.
+-- In order: Call, the calls on the manager by name, callOf, onScan, Outcome, step, run. Laws: proofs/Laws/Sound.antt.
 -- Assumes nothing.
-use mathlib.Core.Bool.{Bool, true, false, cond}
+use mathlib.Core.Bool.{Bool, cond}
 use mathlib.Core.List.{List, [], _∷_}
 use Prim.Native.Nat.{ℕ, _*_}
 use Rattle.lists.specs.Lists.{part}
 use Rattle.rules.specs.Limits.{partitionsMax, rowsMax}
-use Rattle.rules.specs.Begin.{begunManager}
-use Rattle.rules.specs.Close.{committedManager, rolledBackManager}
-use Rattle.rules.specs.ReadOnly.{begunRoManager, endedRoManager}
-use Rattle.rules.specs.Safe.{advancedManager}
+use Rattle.rules.specs.Close.{rolledBackManager}
 use Rattle.rules.specs.Append.{appended, cleared}
 use Rattle.rules.specs.Bitmap.{bitmapAfter}
 use Rattle.rules.specs.Store.{Store, managerOf, partitionAt, spansAt, withManager, laidInPlace}
 use Rattle.rules.specs.Store.{createdStore, rolledBackBelow, purgedStore}
 use Rattle.rules.specs.Answers.{accepted, livePart}
 use Rattle.rules.specs.WellFormed.{wellFormed, lengthsOk}
-use Rattle.rules.specs.Calls.{createAnswer, beginAnswer, appendAnswer, clearAnswer, closeAnswer}
-use Rattle.rules.specs.Calls.{beginRoAnswer, endRoAnswer, scanAnswer, advanceLseAnswer, purgeAnswer}
-use Rattle.rules.specs.Calls.{flagsAt}
+use Rattle.rules.specs.Calls.{createAnswer, managerAnswer, managerAfter, appendAnswer, clearAnswer, closeAnswer}
+use Rattle.rules.specs.Calls.{scanAnswer, purgeAnswer, flagsAt}
 use Rattle.rules.specs.declared.Reader.{Reader}
 use Rattle.rules.specs.declared.Answer.{Answer}
+use Rattle.rules.specs.declared.ManagerCall.{ManagerCall}
+use Rattle.rules.specs.declared.ManagerCall.the-variants.{Begin, Commit, BeginRo, EndRo, AdvanceLse}
 use Rattle.rules.specs.declared.Command.{Command}
-use Rattle.rules.specs.declared.Command.the-variants.{Create, Begin, Append, Clear, Commit, RollBack}
-use Rattle.rules.specs.declared.Command.the-variants.{BeginRo, EndRo, Scan, AdvanceLse, Purge}
+use Rattle.rules.specs.declared.Command.the-variants.{Create, Manage, Append, Clear, RollBack, Scan, Purge}
 
--- append and clear name the transaction, then the partition; a scan has the bitmap that it is lent
+-- a call on the manager changes nothing else; append and clear name the transaction, then the partition; a scan has
+-- the bitmap that it is lent
 pub data Call : Type 0 where
   create : ℕ → Call
-  begin : Call
+  manage : ManagerCall → Call
   append : ℕ → ℕ → List ℕ → Call
   clear : ℕ → ℕ → Call
-  commit : ℕ → Call
   rollback : ℕ → Call
-  beginRo : ℕ → Call
-  endRo : ℕ → Call
   scan : Reader → ℕ → List ℕ → Call
-  advanceLse : ℕ → Call
   purge : ℕ → Call
+
+-- the calls on the manager, by name
+abbrev pub begin : Call
+begin = manage Begin
+
+abbrev pub commit : ℕ → Call
+commit i = manage (Commit i)
+
+abbrev pub beginRo : ℕ → Call
+beginRo e = manage (BeginRo e)
+
+abbrev pub endRo : ℕ → Call
+endRo t = manage (EndRo t)
+
+abbrev pub advanceLse : ℕ → Call
+advanceLse t = manage (AdvanceLse t)
 
 -- the call that a command names, with the batch and the bitmap that are lent beside it
 abbrev pub callOf : Command → List ℕ → List ℕ → Call
 callOf (Create s) batch lent = create s
-callOf Begin batch lent = begin
+callOf (Manage c) batch lent = manage c
 callOf (Append i p) batch lent = append i p batch
 callOf (Clear i p) batch lent = clear i p
-callOf (Commit i) batch lent = commit i
 callOf (RollBack i) batch lent = rollback i
-callOf (BeginRo e) batch lent = beginRo e
-callOf (EndRo t) batch lent = endRo t
 callOf (Scan r p) batch lent = scan r p lent
-callOf (AdvanceLse t) batch lent = advanceLse t
 callOf (Purge p) batch lent = purge p
+
+-- ---- where only a scan matters: f of it, d of another call
+
+abbrev pub onScan : {A : Type 0} → Call → (Reader → ℕ → List ℕ → A) → A → A
+onScan (create s) f d = d
+onScan (manage c) f d = d
+onScan (append i p batch) f d = d
+onScan (clear i p) f d = d
+onScan (rollback i) f d = d
+onScan (scan r p lent) f d = f r p lent
+onScan (purge p) f d = d
+
+abbrev pub onScanCommand : {A : Type 0} → Command → (Reader → ℕ → A) → A → A
+onScanCommand c f d = onScan (callOf c [] []) (λ (r : Reader) (p : ℕ) (lent : List ℕ). f r p) d
+
+-- ---- what a call does
 
 -- the answer, the store and the lent bitmap as the call leaves them, and the part that it returns
 pub record Outcome : Type 0 where
@@ -82,26 +104,16 @@ purgeOutcome p a next st =
 
 unfoldable pub step : Call → Store → Outcome
 step (create s) st = outcome (createAnswer s (lengthsOk st)) (createdStore s st) st
-step begin st =
-    outcome (beginAnswer (wellFormed st) (managerOf st)) (withManager (begunManager (managerOf st)) st) st
+step (manage c) st =
+    outcome (managerAnswer c (wellFormed st) (managerOf st)) (withManager (managerAfter c (managerOf st)) st) st
 step (append i p batch) st =
     outcome (appendAnswer i p batch st) (laidInPlace p (appended i batch (spansAt p st)) st) st
 step (clear i p) st = outcome (clearAnswer i p st) (laidInPlace p (cleared i (spansAt p st)) st) st
-step (commit i) st =
-    let next = committedManager i (managerOf st) in
-    outcome (closeAnswer i (wellFormed st) (managerOf st) next) (withManager next st) st
 step (rollback i) st =
     let next = rolledBackManager i (managerOf st) in
     outcome (closeAnswer i (wellFormed st) (managerOf st) next)
     (withManager next (rolledBackBelow i partitionsMax st)) st
-step (beginRo e) st =
-    outcome (beginRoAnswer e (wellFormed st) (managerOf st)) (withManager (begunRoManager e (managerOf st)) st) st
-step (endRo t) st =
-    outcome (endRoAnswer t (wellFormed st) (managerOf st)) (withManager (endedRoManager t (managerOf st)) st) st
 step (scan r p lent) st = scanOutcome (scanAnswer r p lent st) (flagsAt r p st) lent st
-step (advanceLse t) st =
-    outcome (advanceLseAnswer t (wellFormed st) (managerOf st))
-    (withManager (advancedManager t (managerOf st)) st) st
 step (purge p) st = purgeOutcome p (purgeAnswer p st) (purgedStore p st) st
 
 -- the store after a list of calls

@@ -1,9 +1,9 @@
 -- The whole store: the books and the lent areas; a partition's spans, and spans laid into an area. 01 "Lots".
--- In order: Store, reading a partition, laid, create, append and clear in place, roll back and purge into the
+-- In order: Store, reading a partition, setters, laid, append and clear in place, create, roll back and purge into the
 -- spare area.
 -- Laws: proofs/Laws/Store.antt.
 -- Assumes nothing.
-use mathlib.Core.Bool.{Bool, true, false, cond}
+use mathlib.Core.Bool.{Bool, cond}
 use mathlib.Core.List.{List, [], _∷_, map}
 use Prim.Native.Nat.{ℕ, zero, suc, _*_}
 use lib.ListN.{length, getD, set}
@@ -15,6 +15,7 @@ use Rattle.rules.specs.Rewrite.{hasEpoch, rolledBack, purged, skips}
 use Rattle.rules.specs.declared.Entry.{Entry}
 use Rattle.rules.specs.declared.Manager.{Manager}
 use Rattle.rules.specs.declared.Partition.{Partition}
+use Rattle.rules.specs.declared.Partitions.{Partitions}
 use Rattle.rules.specs.declared.State.{State}
 
 pub record Store : Type 0 where
@@ -42,18 +43,26 @@ rowsAt p st = part (rowsMax * partitionAt p st .area) (partitionAt p st .rows) (
 unfoldable pub spansAt : ℕ → Store → List Span
 spansAt p st = spans 0 (entriesAt p st) (rowsAt p st)
 
--- ---- setters
+-- ---- setters: the only place that writes all fields of a State
+
+abbrev pub stateOf : Manager → Partitions → State
+stateOf m ps = record { manager = m; partitions = ps }
+
+abbrev pub withManagerIn : Manager → State → State
+withManagerIn m s = record { manager = m; partitions = s .partitions }
+
+abbrev pub withPartitionsIn : Partitions → State → State
+withPartitionsIn ps s = record { manager = s .manager; partitions = ps }
 
 abbrev pub withManager : Manager → Store → Store
-withManager m st = record {
-  state = record { manager = m; partitions = st .state .partitions }; rows = st .rows; entries = st .entries }
+withManager m st = record { state = withManagerIn m (st .state); rows = st .rows; entries = st .entries }
 
 -- partition p has these spans, in area a, and s is the spare area; words beyond those written stay
 unfoldable pub laid : ℕ → ℕ → ℕ → List Span → Store → Store
 laid p a s ss st = record {
-  state = record { manager = managerOf st; partitions = record {
+  state = withPartitionsIn (record {
     at = set (st .state .partitions .at) p (record { area = a; rows = length (wordsOf ss); entries = length ss });
-    spare = s } };
+    spare = s }) (st .state);
   rows = over (rowsMax * a) (wordsOf ss) (st .rows);
   entries = over (entriesMax * a) (entriesOf 0 ss) (st .entries) }
 
@@ -67,11 +76,15 @@ laidInSpare p ss st = laid p (st .state .partitions .spare) (partitionAt p st .a
 
 -- ---- making new: partition p starts empty in area p, area 8 is spare; no row or entry word is written
 
+abbrev pub freshPartitions : Partitions
+freshPartitions = record {
+  at = map (λ a. record { area = a; rows = 0; entries = 0 }) (0 ∷ 1 ∷ 2 ∷ 3 ∷ 4 ∷ 5 ∷ 6 ∷ 7 ∷ []); spare = 8 }
+
+abbrev pub createdState : ℕ → State
+createdState s = stateOf (createdManager s) freshPartitions
+
 unfoldable pub createdStore : ℕ → Store → Store
-createdStore s st = record {
-  state = record { manager = createdManager s; partitions = record {
-    at = map (λ a. record { area = a; rows = 0; entries = 0 }) (0 ∷ 1 ∷ 2 ∷ 3 ∷ 4 ∷ 5 ∷ 6 ∷ 7 ∷ []); spare = 8 } };
-  rows = st .rows; entries = st .entries }
+createdStore s st = record { state = createdState s; rows = st .rows; entries = st .entries }
 
 -- ---- roll back: only the partitions with an entry of the transaction, in rising order
 

@@ -3,7 +3,7 @@
 -- areas, wellFormed.
 -- Laws: proofs/Laws/WellFormed.antt.
 -- Assumes nothing.
-use mathlib.Core.Bool.{Bool, true, false, not, _&&_, _||_}
+use mathlib.Core.Bool.{Bool, true, not, _&&_, _||_}
 use mathlib.Core.List.{List, [], _∷_, map}
 use Prim.Native.Nat.{ℕ, suc, _*_}
 use lib.ListN.{length, drop}
@@ -14,7 +14,6 @@ use Rattle.rules.specs.Limits.{rowsMax, entriesMax}
 use Rattle.rules.specs.Manager.{isOpen, depsOf, writersOf, readersOf}
 use Rattle.rules.specs.Store.{Store, managerOf}
 use Rattle.rules.specs.declared.Clock.{Clock}
-use Rattle.rules.specs.declared.Deps.{Deps}
 use Rattle.rules.specs.declared.RwTxn.{RwTxn}
 use Rattle.rules.specs.declared.RoTxn.{RoTxn}
 use Rattle.rules.specs.declared.Manager.{Manager}

@@ -1,6 +1,12 @@
 // The types of the store. Every field of lent and kept state is a number, so that any word may stand in it:
 // a word out of place is refused as unsound (01 "Refusals", 5) and never loaded as a bool or an enum. Fields lie in
 // the order written, each 8 bytes wide and without padding, for callers in C and Rust.
+pub mod limits;
+
+use limits::DEPS_MAX;
+use limits::PARTITIONS_MAX;
+use limits::READERS_MAX;
+use limits::WRITERS_MAX;
 
 // The clock of 01's books: the next epoch (EC), the latest committed epoch (LCE), the latest safe epoch
 // (LSE).
@@ -14,7 +20,7 @@ pub struct Clock {
 // The epochs that were open when a transaction began (01: deps).
 #[repr(C)]
 pub struct Deps {
-    pub at: [u64; 31],
+    pub at: [u64; DEPS_MAX],
     pub count: usize,
 }
 
@@ -28,7 +34,7 @@ pub struct RwTxn {
 
 #[repr(C)]
 pub struct RwTxns {
-    pub at: [RwTxn; 32],
+    pub at: [RwTxn; WRITERS_MAX],
     pub count: usize,
 }
 
@@ -42,7 +48,7 @@ pub struct RoTxn {
 // next is the ticket that is handed out next.
 #[repr(C)]
 pub struct RoTxns {
-    pub at: [RoTxn; 32],
+    pub at: [RoTxn; READERS_MAX],
     pub count: usize,
     pub next: u64,
 }
@@ -65,7 +71,7 @@ pub struct Partition {
 
 #[repr(C)]
 pub struct Partitions {
-    pub at: [Partition; 8],
+    pub at: [Partition; PARTITIONS_MAX],
     pub spare: usize,
 }
 
@@ -121,18 +127,23 @@ pub enum Answer {
     Refused(Refusal),
 }
 
+// The calls that change nothing but the manager (01: the books without the lots).
+pub enum ManagerCall {
+    Begin,
+    Commit { txn: u64 },
+    BeginRo { epoch: u64 },
+    EndRo { ticket: u64 },
+    AdvanceLse { target: u64 },
+}
+
 // A call as a number of words: what a session's line names, and what the dispatcher takes. The rows of an append and
 // the bitmap of a scan are lent beside it.
 pub enum Command {
     Create { start: u64 },
-    Begin,
+    Manage(ManagerCall),
     Append { txn: u64, partition: u64 },
     Clear { txn: u64, partition: u64 },
-    Commit { txn: u64 },
     RollBack { txn: u64 },
-    BeginRo { epoch: u64 },
-    EndRo { ticket: u64 },
     Scan { reader: Reader, partition: u64 },
-    AdvanceLse { target: u64 },
     Purge { partition: u64 },
 }

@@ -8,7 +8,9 @@ ghost use Rattle.session.specs.Answers.{Roomy, AllAnswered};
 use lent::Table;
 use libc::STDIN_FILENO;
 use libc::STDOUT_FILENO;
+use replay::limits::NUMBERS_MAX;
 use rules::State;
+use rules::limits::ROWS_LENT;
 
 // The store after some lines, how many bytes of input they were, and whether their answers were written.
 struct Answers {
@@ -30,7 +32,7 @@ fn answer_all(
     requires { ⌜ Roomy (now numbers) (now out) ⌝ }
     ensures { λ r. ⌜ (r .used ≤ length (now (input .entry)))
         × (r .sent ≡ true → AllAnswered (now (input .entry)) (storeOf state (now (rows .entry)) (table .at))
-          (r .used) (storeOf (r .state) (now (rows .exit)) (r .table .at))) ⌝ }
+        (r .used) (storeOf (r .state) (now (rows .exit)) (r .table .at))) ⌝ }
 {
     let mut state = state;
     let mut table = table;
@@ -69,23 +71,6 @@ fn answer_all(
     }
 }
 
-// The last line, where it has no end.
-fn answer_last(
-    state: State,
-    table: Table,
-    line: &[u8],
-    rows: &mut [u64],
-    numbers: &mut [u64],
-    out: &mut [u8],
-) {
-    if line.len() == 0 {
-        return;
-    }
-    let a = replay::answer_line(state, table, line, rows, numbers, out);
-    let written = a.written;
-    io::write_all(STDOUT_FILENO, &out[..written]);
-}
-
 // More of standard input after the bytes held; answers where they end. At the end of input, or where it cannot be
 // read, no more come.
 fn read_more(input: &mut [u8], held: usize) -> usize
@@ -94,6 +79,25 @@ fn read_more(input: &mut [u8], held: usize) -> usize
 {
     let got = libc::read(STDIN_FILENO, &mut input[held..]);
     held + io::count(got, &input[held..])
+}
+
+// The last line may have no end: where nothing came after the bytes held, it is given one. Answers where the lines to
+// answer end.
+fn end_last(input: &mut [u8], held: usize, end: usize) -> usize
+    requires { ⌜ end ≤ length (now input) ⌝ }
+    ensures { λ r. ⌜ r ≤ length (now (input .exit)) ⌝ }
+{
+    if end != held {
+        return end;
+    }
+    if held == 0 {
+        return 0;
+    }
+    if held == input.len() {
+        return held;
+    }
+    input[held] = b'\n';
+    held + 1
 }
 
 // Standard input to its end, in chunks of any size. The bytes of a line that is yet to end stay at the front of
@@ -115,12 +119,12 @@ fn serve(
     while turns > 0 {
         turns -= 1;
         let end = read_more(input, held);
-        if end == held {
-            answer_last(state, table, &input[..held], rows, numbers, out);
+        let stop = end_last(input, held, end);
+        let a = answer_all(state, table, &input[..stop], rows, numbers, out);
+        if !a.sent {
             return;
         }
-        let a = answer_all(state, table, &input[..end], rows, numbers, out);
-        if !a.sent {
+        if end == held {
             return;
         }
         let s = a.state;
@@ -132,8 +136,8 @@ fn serve(
 }
 
 fn main() {
-    let mut rows = [0u64; 4608];
-    let mut numbers = [0u64; 8192];
+    let mut rows = [0u64; ROWS_LENT];
+    let mut numbers = [0u64; NUMBERS_MAX];
     let mut input = io::large_buffer();
     let mut out = io::large_buffer();
     let first = replay::start(&mut rows);

@@ -1,4 +1,3 @@
-pub mod Over
 pub mod Print
 pub mod Lines
 pub mod Grammar

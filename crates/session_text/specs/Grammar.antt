@@ -1,15 +1,17 @@
 -- The lines that are calls. 01 "A session"; docs/DECISIONS.md D5.
--- In order: words, numbers, a letter with its numbers, a scan, a line. Laws: proofs/Laws/Grammar.antt.
+-- In order: the letter of a call, words, numbers, a letter with its numbers, a scan, a line.
+-- Laws: proofs/Laws/Grammar.antt.
 -- Assumes nothing.
-use mathlib.Core.Bool.{Bool, true, false, not, _&&_, cond}
+use mathlib.Core.Bool.{Bool, true, false, _&&_, cond}
 use mathlib.Core.List.{List, [], _∷_, map}
 use Prim.Native.Nat.{ℕ, _+_, _-_, _*_, _^_}
 use lib.ListN.{length}
 use lib.Dec.{ltb, leb, eqb}
 use Rattle.lists.specs.Lists.{allOf}
 use Rattle.rules.specs.declared.Command.{Command}
-use Rattle.rules.specs.declared.Command.the-variants.{Begin, Append, Clear, Commit, RollBack, BeginRo, EndRo}
-use Rattle.rules.specs.declared.Command.the-variants.{Scan, AdvanceLse, Purge}
+use Rattle.rules.specs.declared.Command.the-variants.{Create, Manage, Append, Clear, RollBack, Scan, Purge}
+use Rattle.rules.specs.declared.ManagerCall.{ManagerCall}
+use Rattle.rules.specs.declared.ManagerCall.the-variants.{Begin, Commit, BeginRo, EndRo, AdvanceLse}
 use Rattle.rules.specs.declared.Reader.the-variants.{Rw, Ro}
 use Rattle.session_text.specs.declared.Parsed.{Parsed}
 use Rattle.session_text.specs.declared.Parsed.the-variants.{Call, Bad}
@@ -17,6 +19,24 @@ use Rattle.session_text.specs.declared.Parsed.the-variants.{Call, Bad}
 -- a line may have so many bytes without its end
 abbrev pub lineMax : ℕ
 lineMax = 16384
+
+-- ---- the letter of a call
+
+abbrev pub managerLetter : ManagerCall → ℕ
+managerLetter Begin = 66
+managerLetter (Commit i) = 67
+managerLetter (BeginRo e) = 82
+managerLetter (EndRo t) = 69
+managerLetter (AdvanceLse t) = 76
+
+abbrev pub letterOf : Command → ℕ
+letterOf (Create s) = 78
+letterOf (Manage c) = managerLetter c
+letterOf (Append i p) = 65
+letterOf (Clear i p) = 68
+letterOf (RollBack i) = 88
+letterOf (Scan r p) = 83
+letterOf (Purge p) = 80
 
 -- ---- words, parted by one blank: two blanks have an empty word between them
 
@@ -51,11 +71,11 @@ numbersOf bs = map (valueOf 0) (words bs)
 
 unfoldable pub withOne : ℕ → ℕ → Parsed
 withOne letter a =
-    cond (eqb letter 67) (Call (Commit a) 0)
+    cond (eqb letter 67) (Call (Manage (Commit a)) 0)
     (cond (eqb letter 88) (Call (RollBack a) 0)
-    (cond (eqb letter 82) (Call (BeginRo a) 0)
-    (cond (eqb letter 69) (Call (EndRo a) 0)
-    (cond (eqb letter 76) (Call (AdvanceLse a) 0)
+    (cond (eqb letter 82) (Call (Manage (BeginRo a)) 0)
+    (cond (eqb letter 69) (Call (Manage (EndRo a)) 0)
+    (cond (eqb letter 76) (Call (Manage (AdvanceLse a)) 0)
     (cond (eqb letter 80) (Call (Purge a) 0) Bad)))))
 
 unfoldable pub withTwo : ℕ → ℕ → ℕ → Parsed
@@ -90,7 +110,7 @@ numbersIn (letter ∷ b ∷ c ∷ bs) = cond (eqb letter 83) (numbersOf bs) (num
 
 unfoldable pub parsedShort : List ℕ → Parsed
 parsedShort [] = Bad
-parsedShort (letter ∷ []) = cond (eqb letter 66) (Call Begin 0) Bad
+parsedShort (letter ∷ []) = cond (eqb letter 66) (Call (Manage Begin) 0) Bad
 parsedShort (letter ∷ b ∷ []) = Bad
 parsedShort (letter ∷ b ∷ c ∷ bs) =
     cond (eqb b 32)

@@ -1,16 +1,52 @@
-// A call from its letter and its numbers. 01 "A session".
+// A call from its letter and its numbers, and the letter of a call. 01 "A session".
 use crate::Parsed;
 use crate::numbers::count_numbers;
 use crate::numbers::put_numbers;
 use rules::Command;
+use rules::ManagerCall;
 use rules::Reader;
 ghost use mathlib.Core.Path.{_≡_};
 ghost use mathlib.Core.List.{[], _∷_};
 ghost use Prim.Native.Nat.{_≤_, _<_};
 ghost use lib.ListN.{length, take, drop};
 ghost use Rattle.session_text.specs.Grammar.{withOne, withTwo, withMore, scanBy, isCall, numbersOf};
-ghost use Rattle.session_text.specs.Grammar.{parsedShort, lineMax};
+ghost use Rattle.session_text.specs.Grammar.{managerLetter, letterOf, parsedShort, lineMax};
 ghost use Rattle.session_text.specs.Calls.{callBy, callOn, numbersCall, fromOf, inRoom, ifCall};
+
+fn manager_letter(call: ManagerCall) -> u8
+    ensures { λ r. ⌜ r ≡ managerLetter call ⌝ }
+{
+    match call {
+        ManagerCall::Begin => b'B',
+        ManagerCall::Commit { txn: _ } => b'C',
+        ManagerCall::BeginRo { epoch: _ } => b'R',
+        ManagerCall::EndRo { ticket: _ } => b'E',
+        ManagerCall::AdvanceLse { target: _ } => b'L',
+    }
+}
+
+pub fn letter_of(command: Command) -> u8
+    ensures { λ r. ⌜ r ≡ letterOf command ⌝ }
+{
+    match command {
+        Command::Create { start: _ } => b'N',
+        Command::Manage(call) => manager_letter(call),
+        Command::Append {
+            txn: _,
+            partition: _,
+        } => b'A',
+        Command::Clear {
+            txn: _,
+            partition: _,
+        } => b'D',
+        Command::RollBack { txn: _ } => b'X',
+        Command::Scan {
+            reader: _,
+            partition: _,
+        } => b'S',
+        Command::Purge { partition: _ } => b'P',
+    }
+}
 
 // A call without rows.
 fn bare(command: Command) -> Parsed
@@ -23,11 +59,11 @@ fn with_one(letter: u8, a: u64) -> Parsed
     ensures { λ r. ⌜ r ≡ withOne letter a ⌝ }
 {
     match letter {
-        b'C' => bare(Command::Commit { txn: a }),
+        b'C' => bare(Command::Manage(ManagerCall::Commit { txn: a })),
         b'X' => bare(Command::RollBack { txn: a }),
-        b'R' => bare(Command::BeginRo { epoch: a }),
-        b'E' => bare(Command::EndRo { ticket: a }),
-        b'L' => bare(Command::AdvanceLse { target: a }),
+        b'R' => bare(Command::Manage(ManagerCall::BeginRo { epoch: a })),
+        b'E' => bare(Command::Manage(ManagerCall::EndRo { ticket: a })),
+        b'L' => bare(Command::Manage(ManagerCall::AdvanceLse { target: a })),
         b'P' => bare(Command::Purge { partition: a }),
         _ => Parsed::Bad,
     }
@@ -103,7 +139,10 @@ fn is_call(p: Parsed) -> bool
     ensures { λ r. ⌜ r ≡ isCall p ⌝ }
 {
     match p {
-        Parsed::Call { command: _, rows: _ } => true,
+        Parsed::Call {
+            command: _,
+            rows: _,
+        } => true,
         Parsed::Bad => false,
     }
 }
@@ -120,7 +159,13 @@ fn call_with(letter: u8, who: u8, count: usize, numbers: &[u64]) -> Parsed
 }
 
 // The call whose numbers stand from index `from` on. Whether it is one is seen before its numbers are written.
-pub(crate) fn parse_numbers(letter: u8, who: u8, line: &[u8], from: usize, numbers: &mut [u64]) -> Parsed
+pub(crate) fn parse_numbers(
+    letter: u8,
+    who: u8,
+    line: &[u8],
+    from: usize,
+    numbers: &mut [u64],
+) -> Parsed
     requires { ⌜ (from ≤ length (now line)) × (length (now line) ≤ lineMax) ⌝ }
     ensures answer { λ r. ⌜ r ≡ inRoom (numbersOf (drop from (now (line .entry)))) (now (numbers .entry))
         (numbersCall letter who (drop from (now (line .entry)))) ⌝ }
@@ -152,7 +197,7 @@ pub(crate) fn parse_letter(line: &[u8]) -> Parsed
     if line[0] != b'B' {
         return Parsed::Bad;
     }
-    bare(Command::Begin)
+    bare(Command::Manage(ManagerCall::Begin))
 }
 
 // Where the numbers begin: S names who scans in the byte before.

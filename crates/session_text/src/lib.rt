@@ -2,28 +2,23 @@
 use crate::call::from_of;
 use crate::call::parse_letter;
 use crate::call::parse_numbers;
-use crate::line::put_line;
-use crate::reply::Values;
-use crate::reply::letter_of;
-use crate::reply::reply_of;
-use crate::reply::values_in;
-use rules::Answer;
 use rules::Command;
 
 mod call;
 mod decimal;
 mod line;
 mod numbers;
-pub mod reply;
 
+pub use call::letter_of;
+pub use line::print_line;
 ghost use mathlib.Core.Path.{_≡_};
 ghost use mathlib.Core.Bool.{cond};
 ghost use lib.ListN.{length};
 ghost use lib.Dec.{leb};
 ghost use Rattle.lists.specs.Lists.{over};
 ghost use Rattle.session_text.specs.Grammar.{parsed, numbersIn, isCall};
-ghost use Rattle.session_text.specs.Print.{printed, question};
-ghost use Rattle.session_text.specs.Lines.{sizeIn, writtenIn, lineOf, lineEnd};
+ghost use Rattle.session_text.specs.Print.{question};
+ghost use Rattle.session_text.specs.Lines.{sizeIn, writtenIn, lineEnd};
 
 // What a line is: a call, with so many rows beside it, or none.
 pub enum Parsed {
@@ -72,35 +67,6 @@ pub fn line_end(input: &[u8], from: usize) -> usize
         i += 1;
     }
     i
-}
-
-// The answer to a call, with the rows shown where it is a scan.
-pub fn print(command: Command, answer: Answer, shown: &[u64], out: &mut [u8]) -> usize
-    ensures answer { λ r. ⌜ r ≡ sizeIn (printed command answer (now (shown .entry))) (now (out .entry)) ⌝ }
-    ensures words { λ _. ⌜ now (out .exit) ≡ writtenIn (printed command answer (now (shown .entry))) (now (out .entry)) ⌝ }
-{
-    let letter = letter_of(command);
-    let reply = reply_of(answer);
-    if reply.number != 0 {
-        return put_line(letter, reply.number, &shown[..0], out);
-    }
-    let values = values_in(command);
-    match values {
-        Values::None => put_line(letter, 0, &shown[..0], out),
-        Values::One => {
-            let one = [reply.value];
-            put_line(letter, 0, &one, out)
-        }
-        Values::Shown => put_line(letter, 0, shown, out),
-    }
-}
-
-// A letter, a number and values: a line that no session prints, for the cases at the edges.
-pub fn print_values(letter: u8, number: u64, values: &[u64], out: &mut [u8]) -> usize
-    ensures answer { λ r. ⌜ r ≡ sizeIn (lineOf letter number (now (values .entry))) (now (out .entry)) ⌝ }
-    ensures words { λ _. ⌜ now (out .exit) ≡ writtenIn (lineOf letter number (now (values .entry))) (now (out .entry)) ⌝ }
-{
-    put_line(letter, number, values, out)
 }
 
 // The answer to a line that is no call.

@@ -6,8 +6,8 @@ ghost use Prim.Native.Nat.{_+_, _≤_};
 ghost use lib.ListN.{length};
 ghost use lib.Dec.{leb};
 ghost use Rattle.lists.specs.Lists.{over, gather};
-ghost use Rattle.session_text.specs.Print.{spaced};
-ghost use Rattle.session_text.specs.Lines.{sizeIn, writtenIn, lineOf};
+ghost use Rattle.session_text.specs.Print.{spaced, lineOf};
+ghost use Rattle.session_text.specs.Lines.{sizeIn, writtenIn};
 
 // Whether a blank and a number for each value have room.
 fn values_fit(values: &[u64], room: usize) -> bool
@@ -76,10 +76,11 @@ fn put_parts(letter: u8, number: u64, values: &[u64], out: &mut [u8]) -> usize
     end + 1
 }
 
-// The whole line, where it has room.
-pub(crate) fn put_line(letter: u8, number: u64, values: &[u64], out: &mut [u8]) -> usize
+// The whole line, where it has room; answers how many bytes it has.
+pub fn print_line(letter: u8, number: u64, values: &[u64], out: &mut [u8]) -> usize
     ensures answer { λ r. ⌜ r ≡ sizeIn (lineOf letter number (now (values .entry))) (now (out .entry)) ⌝ }
-    ensures words { λ _. ⌜ now (out .exit) ≡ writtenIn (lineOf letter number (now (values .entry))) (now (out .entry)) ⌝ }
+    ensures words { λ _. ⌜ now (out .exit)
+        ≡ writtenIn (lineOf letter number (now (values .entry))) (now (out .entry)) ⌝ }
 {
     if !line_fits(number, values, out.len()) {
         return 0;

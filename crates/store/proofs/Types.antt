@@ -1,11 +1,13 @@
--- The crate's plans and answers, as lent's Shown takes them.
+-- The crate's plans and answers, as walks' Shown takes them.
 -- Assumes nothing.
 use mathlib.Core.Path.{refl}
 use denote.Struct.Laws as LL
 use denote.Enum.Laws as EL
 use Rattle.rules.proofs.Answer as AnswerT
 use Rattle.rules.proofs.Answer.Laws as AnswerL
-use Rattle.lent.proofs.Shown.{Shown}
+use Rattle.rules.proofs.ManagerCall as ManagerCallT
+use Rattle.rules.proofs.ManagerCall.Laws as ManagerCallL
+use Rattle.walks.proofs.Shown.{Shown}
 use Rattle.store.proofs.Kept as KeptT
 use Rattle.store.proofs.Kept.Laws as KeptL
 
@@ -22,3 +24,11 @@ answer = record {
   val = EL.val AnswerT.the-type AnswerL.the-laws; tells = EL.tells AnswerT.the-type AnswerL.the-laws;
   wt = λ 𝓤 H A G z g. EL.lawful AnswerT.the-type AnswerL.the-laws 𝓤 H A G tt .typed z _ g .0; last = λ x. tt;
   silent = λ x f. refl; makes = λ 𝓤 H A _. EL.makes AnswerT.the-type AnswerL.the-plain 𝓤 H A }
+
+abbrev pub managerCall : Shown
+managerCall = record {
+  row = ManagerCallT.the-row; mir = ManagerCallL.mir;
+  val = EL.val ManagerCallT.the-type ManagerCallL.the-laws;
+  tells = EL.tells ManagerCallT.the-type ManagerCallL.the-laws;
+  wt = λ 𝓤 H A G z g. EL.lawful ManagerCallT.the-type ManagerCallL.the-laws 𝓤 H A G tt .typed z _ g .0; last = λ x. tt;
+  silent = λ x f. refl; makes = λ 𝓤 H A _. EL.makes ManagerCallT.the-type ManagerCallL.the-plain 𝓤 H A }

@@ -3,22 +3,18 @@
 -- Assumes nothing.
 use mathlib.Core.Path.{_≡_}
 use mathlib.Core.Bool.{cond}
-use mathlib.Core.List.{List, []}
+use mathlib.Core.List.{List}
 use Prim.Native.Nat.{ℕ}
-use Rattle.rules.specs.Begin.{createdManager, begunManager}
-use Rattle.rules.specs.Close.{committedManager}
-use Rattle.rules.specs.ReadOnly.{begunRoManager, endedRoManager}
-use Rattle.rules.specs.Safe.{advancedManager}
-use Rattle.rules.specs.Store.{Store, createdStore}
+use Rattle.rules.specs.Store.{Store, withManagerIn, createdState}
 use Rattle.rules.specs.Answers.{accepted}
-use Rattle.rules.specs.Calls.{createAnswer, beginAnswer, closeAnswer, beginRoAnswer, endRoAnswer}
-use Rattle.rules.specs.Calls.{advanceLseAnswer}
+use Rattle.rules.specs.Calls.{createAnswer, managerAnswer, managerAfter}
 use Rattle.rules.specs.Step.{Outcome}
 use Rattle.rules.specs.declared.Answer.{Answer}
+use Rattle.rules.specs.declared.ManagerCall.{ManagerCall}
 use Rattle.rules.specs.declared.Entry.{Entry}
 use Rattle.rules.specs.declared.Manager.{Manager}
-use Rattle.rules.specs.declared.Partitions.{Partitions}
 use Rattle.rules.specs.declared.State.{State}
+use Rattle.txn.specs.declared.Managed.{Managed}
 use Rattle.lent.specs.declared.Table.{Table}
 use Rattle.admit.specs.Sound.{lengthsAre, soundOf}
 use Rattle.store.specs.declared.Kept.{Kept}
@@ -35,41 +31,21 @@ Left out r rows entries = (r .answer ≡ out .answer) × (storeOf (r .state) row
 abbrev pub Showed : Outcome → Answer → List ℕ → Store → Type 0
 Showed out r bytes st = (r ≡ out .answer) × (bytes ≡ out .bitmap) × (st ≡ out .store)
 
--- partition p in area p, all empty, and the last area spare
-unfoldable pub freshPartitions : Partitions
-freshPartitions = createdStore 1 (record {
-    state = record { manager = createdManager 1; partitions = record { at = []; spare = 0 } }; rows = []; entries = [] })
-    .state .partitions
-
 -- ---- calls on the manager
+
+abbrev pub keptWith : State → Managed → Kept
+keptWith s done = record { answer = done .answer; state = withManagerIn (done .manager) s }
 
 -- next is the manager that an accepted call leaves
 abbrev pub keptOf : Answer → Manager → State → Kept
 keptOf a next s =
-    record { answer = a; state = record { manager = cond (accepted a) next (s .manager); partitions = s .partitions } }
+    record { answer = a; state = withManagerIn (cond (accepted a) next (s .manager)) s }
 
 -- making new reads no state
 abbrev pub createKept : State → Table → ℕ → ℕ → ℕ → Kept
 createKept s t n m a =
     let answer = createAnswer a (lengthsAre n m) in
-    record { answer = answer; state =
-      cond (accepted answer) (record { manager = createdManager a; partitions = freshPartitions }) s }
+    record { answer = answer; state = cond (accepted answer) (createdState a) s }
 
-abbrev pub beginKept : State → Table → ℕ → ℕ → Kept
-beginKept s t n m = keptOf (beginAnswer (soundOf s t n m) (s .manager)) (begunManager (s .manager)) s
-
-abbrev pub commitKept : State → Table → ℕ → ℕ → ℕ → Kept
-commitKept s t n m a =
-    keptOf (closeAnswer a (soundOf s t n m) (s .manager) (committedManager a (s .manager))) (committedManager a (s .manager)) s
-
-abbrev pub beginRoKept : State → Table → ℕ → ℕ → ℕ → Kept
-beginRoKept s t n m a =
-    keptOf (beginRoAnswer a (soundOf s t n m) (s .manager)) (begunRoManager a (s .manager)) s
-
-abbrev pub endRoKept : State → Table → ℕ → ℕ → ℕ → Kept
-endRoKept s t n m a =
-    keptOf (endRoAnswer a (soundOf s t n m) (s .manager)) (endedRoManager a (s .manager)) s
-
-abbrev pub advanceLseKept : State → Table → ℕ → ℕ → ℕ → Kept
-advanceLseKept s t n m a =
-    keptOf (advanceLseAnswer a (soundOf s t n m) (s .manager)) (advancedManager a (s .manager)) s
+abbrev pub managerKept : State → Table → ℕ → ℕ → ManagerCall → Kept
+managerKept s t n m c = keptOf (managerAnswer c (soundOf s t n m) (s .manager)) (managerAfter c (s .manager)) s

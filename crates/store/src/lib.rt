@@ -1,13 +1,14 @@
-// The store: one public function for each call of 01. The books are kept by value, the areas of rows and of entries are
-// lent. Each call loads the entries, decides by value, then writes; what it answers and leaves is rules' step.
+// The store: one public function for the calls on the manager, and one for each other call of 01. The books are kept by
+// value, the areas of rows and of entries are lent. Each call loads the entries, decides by value, then writes; what it
+// answers and leaves is rules' step.
 ghost use mathlib.Core.Path.{_≡_};
-ghost use Rattle.rules.specs.Step.{step, begin, append, clear, commit, rollback, create, beginRo, endRo, scan};
-ghost use Rattle.rules.specs.Step.{advanceLse, purge};
+ghost use Rattle.rules.specs.Store.{createdState};
+ghost use Rattle.rules.specs.Step.{step, manage, append, clear, rollback, create, scan, purge};
 ghost use Rattle.rules.specs.declared.Reader.the-variants.{Rw, Ro};
 ghost use Rattle.store.specs.Kept.{storeOf, Left, Showed};
-
 use rules::Answer;
 use rules::Entry;
+use rules::ManagerCall;
 use rules::State;
 
 mod books;
@@ -17,6 +18,18 @@ mod done;
 pub struct Kept {
     pub answer: Answer,
     pub state: State,
+}
+
+// The books that making new at s leaves, whatever s is, for a caller that has none yet.
+pub fn new_books(s: u64) -> State
+    ensures { λ r. ⌜ r ≡ createdState s ⌝ }
+{
+    let manager = txn_start::created(s);
+    let partitions = books::fresh();
+    State {
+        manager: manager,
+        partitions: partitions,
+    }
 }
 
 // Making new at epoch a. It reads no state and writes no lent word. Refusals, in this order: 5 (the lengths), 4.
@@ -30,19 +43,27 @@ pub fn create(state: State, entries: &[Entry], rows: &[u64], a: u64) -> Kept
     books::create_core(state, t, n, m, a)
 }
 
-// Refusals, in this order: 5, 6, 7.
-pub fn begin(state: State, entries: &[Entry], rows: &[u64]) -> Kept
-    ensures { λ r. ⌜ Left (step begin (storeOf state (now (rows .entry)) (now (entries .entry))))
+// The calls that change nothing but the manager. Refusals, in this order: begin 5, 6, 7; commit 5, 2; opening a page
+// 5, 4, 6, 7; closing one 5, 2; moving LSE 5, 4, 10.
+pub fn manage(state: State, entries: &[Entry], rows: &[u64], call: ManagerCall) -> Kept
+    ensures { λ r. ⌜ Left (step (manage call) (storeOf state (now (rows .entry)) (now (entries .entry))))
         r (now (rows .entry)) (now (entries .entry)) ⌝ }
 {
     let n = entries.len();
     let m = rows.len();
     let t = lent::load_all(entries);
-    books::begin_core(state, t, n, m)
+    books::manage_core(state, t, n, m, call)
 }
 
 // The rows of batch to partition p (01: lot), by transaction txn (01: load). Refusals, in this order: 5, 1, 2, 8, 9.
-pub fn append(state: State, entries: &mut [Entry], rows: &mut [u64], batch: &[u64], txn: u64, p: u64) -> Kept
+pub fn append(
+    state: State,
+    entries: &mut [Entry],
+    rows: &mut [u64],
+    batch: &[u64],
+    txn: u64,
+    p: u64,
+) -> Kept
     ensures { λ r. ⌜ Left (step (append txn p (now (batch .entry))) (storeOf state (now (rows .entry))
         (now (entries .entry)))) r (now (rows .exit)) (now (entries .exit)) ⌝ }
 {
@@ -70,17 +91,6 @@ pub fn clear(state: State, entries: &mut [Entry], rows: &mut [u64], txn: u64, p:
     done::write_done(w)
 }
 
-// Refusals, in this order: 5, 2.
-pub fn commit(state: State, entries: &[Entry], rows: &[u64], a: u64) -> Kept
-    ensures { λ r. ⌜ Left (step (commit a) (storeOf state (now (rows .entry)) (now (entries .entry))))
-        r (now (rows .entry)) (now (entries .entry)) ⌝ }
-{
-    let n = entries.len();
-    let m = rows.len();
-    let t = lent::load_all(entries);
-    books::commit_core(state, t, n, m, a)
-}
-
 // Rolling back transaction a in all partitions. Refusals, in this order: 5, 2.
 pub fn roll_back(state: State, entries: &mut [Entry], rows: &mut [u64], a: u64) -> Kept
     ensures { λ r. ⌜ Left (step (rollback a) (storeOf state (now (rows .entry)) (now (entries .entry))))
@@ -95,30 +105,15 @@ pub fn roll_back(state: State, entries: &mut [Entry], rows: &mut [u64], a: u64) 
     done::roll_back_done(w)
 }
 
-// Opening a page at epoch a; 0 means LCE. Refusals, in this order: 5, 4, 6, 7.
-pub fn begin_ro(state: State, entries: &[Entry], rows: &[u64], a: u64) -> Kept
-    ensures { λ r. ⌜ Left (step (beginRo a) (storeOf state (now (rows .entry)) (now (entries .entry))))
-        r (now (rows .entry)) (now (entries .entry)) ⌝ }
-{
-    let n = entries.len();
-    let m = rows.len();
-    let t = lent::load_all(entries);
-    books::begin_ro_core(state, t, n, m, a)
-}
-
-// Closing a page. Refusals, in this order: 5, 2.
-pub fn end_ro(state: State, entries: &[Entry], rows: &[u64], a: u64) -> Kept
-    ensures { λ r. ⌜ Left (step (endRo a) (storeOf state (now (rows .entry)) (now (entries .entry))))
-        r (now (rows .entry)) (now (entries .entry)) ⌝ }
-{
-    let n = entries.len();
-    let m = rows.len();
-    let t = lent::load_all(entries);
-    books::end_ro_core(state, t, n, m, a)
-}
-
 // Transaction i scans partition p: a bit a row in bitmap. Refusals, in this order: 5, 1, 2, 3.
-pub fn scan_rw(state: State, entries: &[Entry], rows: &[u64], bitmap: &mut [u8], i: u64, p: u64) -> Answer
+pub fn scan_rw(
+    state: State,
+    entries: &[Entry],
+    rows: &[u64],
+    bitmap: &mut [u8],
+    i: u64,
+    p: u64,
+) -> Answer
     ensures { λ r. ⌜ Showed (step (scan (Rw i) p (now (bitmap .entry))) (storeOf state (now (rows .entry))
         (now (entries .entry)))) r (now (bitmap .exit)) (storeOf state (now (rows .entry))
         (now (entries .entry))) ⌝ }
@@ -133,7 +128,14 @@ pub fn scan_rw(state: State, entries: &[Entry], rows: &[u64], bitmap: &mut [u8],
 }
 
 // The read-only transaction of ticket t scans partition p. Refusals, in this order: 5, 1, 2, 3.
-pub fn scan_ro(state: State, entries: &[Entry], rows: &[u64], bitmap: &mut [u8], t: u64, p: u64) -> Answer
+pub fn scan_ro(
+    state: State,
+    entries: &[Entry],
+    rows: &[u64],
+    bitmap: &mut [u8],
+    t: u64,
+    p: u64,
+) -> Answer
     ensures { λ r. ⌜ Showed (step (scan (Ro t) p (now (bitmap .entry))) (storeOf state (now (rows .entry))
         (now (entries .entry)))) r (now (bitmap .exit)) (storeOf state (now (rows .entry))
         (now (entries .entry))) ⌝ }
@@ -145,17 +147,6 @@ pub fn scan_ro(state: State, entries: &[Entry], rows: &[u64], bitmap: &mut [u8],
     let w = plan_scan::ro_core(state, l, n, m, k, t, p);
     plan_scan::write_bits(bitmap, w);
     plan_scan::look_done(w)
-}
-
-// Moving LSE to a; 0 means as far as it may go. Refusals, in this order: 5, 4, 10.
-pub fn advance_lse(state: State, entries: &[Entry], rows: &[u64], a: u64) -> Kept
-    ensures { λ r. ⌜ Left (step (advanceLse a) (storeOf state (now (rows .entry)) (now (entries .entry))))
-        r (now (rows .entry)) (now (entries .entry)) ⌝ }
-{
-    let n = entries.len();
-    let m = rows.len();
-    let t = lent::load_all(entries);
-    books::advance_lse_core(state, t, n, m, a)
 }
 
 // Purging partition p at LSE. Refusals, in this order: 5, 1. live_part::in_force returns the part in force.

@@ -1,21 +1,21 @@
 -- Closing and settling as one pass over rising records sees them. 01 "The books", Commit, roll back.
 -- The rules' own wording is settledLce (rules/specs/Close.antt); proofs/Laws/Settle.antt shows that the two
 -- agree.
--- In order: lead, runLce, records in their places, the order of their epochs, the answer.
+-- In order: lead, runLce, the transaction closed, the order of the epochs, the answer.
 -- Assumes nothing.
 use mathlib.Core.Path.{_≡_}
-use mathlib.Core.Bool.{true, cond}
+use mathlib.Core.Bool.{Bool, true, cond}
 use mathlib.Core.List.{List, [], _∷_, map}
-use Prim.Native.Nat.{ℕ, suc}
-use lib.ListN.{length, set}
-use Rattle.lists.specs.Lists.{pad, rises}
+use Prim.Native.Nat.{ℕ, suc, _≤_, _<_}
+use lib.ListN.{set}
+use Rattle.lists.specs.Lists.{rises}
 use Rattle.rules.specs.Limits.{writersMax}
-use Rattle.rules.specs.Manager.{noRw, isOpen, writersOf}
-use Rattle.rules.specs.Close.{waitingTxn}
+use Rattle.rules.specs.Manager.{isOpen, writersOf, withWriters}
+use Rattle.rules.specs.Close.{waitingTxn, committedManager, rolledBackManager}
 use Rattle.rules.specs.declared.Answer.the-variants.{Closed}
 use Rattle.rules.specs.declared.RwTxn.{RwTxn}
-use Rattle.rules.specs.declared.RwTxns.{RwTxns}
 use Rattle.rules.specs.declared.Manager.{Manager}
+use Rattle.txn.specs.Records.{cut, Tidy}
 use Rattle.txn.specs.declared.Managed.{Managed}
 use Rattle.txn_close.specs.declared.close.Reached.{Reached}
 
@@ -32,16 +32,23 @@ runLce lce (t ∷ ts) = cond (isOpen t) lce (runLce (t .epoch) ts)
 abbrev pub reachOf : ℕ → List RwTxn → Reached
 reachOf lce ts = record { lce = runLce lce ts; count = lead ts }
 
--- ---- records in their places, unused places 0
+-- ---- the transaction of epoch i, at place j, closed: waits says that it waits, committed
 
-abbrev pub writersWith : List RwTxn → RwTxns
-writersWith ts = record { at = pad writersMax noRw ts; count = length ts }
+-- the manager has a record at place j, and the places after those in use are unused
+pub record Closable (m : Manager) (j : ℕ) : Type 0 where
+  pub place : j < m .writers .count
+  pub room : m .writers .count ≤ writersMax
+  pub clear : Tidy m
 
--- the record at place j waits, at epoch i
-abbrev pub waitedAt : ℕ → ℕ → Manager → Manager
-waitedAt j i m = record {
-  clock = m .clock; writers = record { at = set (m .writers .at) j (waitingTxn i); count = m .writers .count };
-  readers = m .readers }
+abbrev pub closedTxns : Bool → ℕ → ℕ → List RwTxn → List RwTxn
+closedTxns waits j i ts = cond waits (set ts j (waitingTxn i)) (cut j (suc j) ts)
+
+abbrev pub closedAt : Bool → ℕ → ℕ → Manager → Manager
+closedAt waits j i m = withWriters (closedTxns waits j i (writersOf m)) m
+
+-- the rules' own wording, LCE settled
+abbrev pub closedManager : Bool → ℕ → Manager → Manager
+closedManager waits i m = cond waits (committedManager i m) (rolledBackManager i m)
 
 -- the epochs rise, from above LCE to below EC
 abbrev pub RisingOf : Manager → Type 0

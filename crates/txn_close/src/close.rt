@@ -1,19 +1,21 @@
 // Close, then settle LCE. 01 "The books", Commit, roll back; 004 III-B "LCE".
+use places::in_use;
 use rules::Manager;
 use rules::RwTxn;
 use rules::RwTxns;
-use txn_find::WRITERS_MAX;
-use txn_find::least;
+use rules::limits::WRITERS_MAX;
 use txn_find::no_deps;
 use txn_find::no_rw;
+ghost use mathlib.Core.Bool.{true, false};
 ghost use mathlib.Core.Path.{_≡_};
-ghost use Prim.Native.Nat.{suc, _<_, _≤_};
+ghost use Prim.Native.Nat.{_≤_};
 ghost use lib.ListN.{take};
 ghost use Rattle.lists.specs.Lists.{pad};
-ghost use Rattle.rules.specs.Manager.{noRw, writersOf, withWriters};
+ghost use Rattle.rules.specs.Limits.{writersMax};
+ghost use Rattle.rules.specs.Manager.{noRw, writersOf};
 ghost use Rattle.rules.specs.Close.{settled};
-ghost use Rattle.txn.specs.Records.{cut, Tidy};
-ghost use Rattle.txn_close.specs.Close.{reachOf, writersWith, waitedAt, RisingOf};
+ghost use Rattle.txn.specs.Records.{cut, writersWith, Tidy};
+ghost use Rattle.txn_close.specs.Close.{reachOf, Closable, closedAt, RisingOf};
 
 // The manager as its calls change it by value (01: the books, without the lots).
 pub struct Books {
@@ -30,7 +32,7 @@ struct Reached {
 fn reach(ts: RwTxns, lce: u64) -> Reached
     ensures { λ r. ⌜ r ≡ reachOf lce (take (ts .count) (ts .at)) ⌝ }
 {
-    let n = least(ts.count, WRITERS_MAX);
+    let n = in_use(ts.count, WRITERS_MAX);
     let mut last = lce;
     let mut k: usize = 0;
     while k < n {
@@ -51,8 +53,8 @@ fn reach(ts: RwTxns, lce: u64) -> Reached
 
 // The records without those from place a up to place b.
 fn cut_writers(ts: RwTxns, a: usize, b: usize) -> RwTxns
-    requires { ⌜ (a ≤ b) × (b ≤ ts .count) × (ts .count ≤ 32) ⌝ }
-    requires { ⌜ ts .at ≡ pad 32 noRw (take (ts .count) (ts .at)) ⌝ }
+    requires { ⌜ (a ≤ b) × (b ≤ ts .count) × (ts .count ≤ writersMax) ⌝ }
+    requires { ⌜ ts .at ≡ pad writersMax noRw (take (ts .count) (ts .at)) ⌝ }
     ensures { λ r. ⌜ r ≡ writersWith (cut a b (take (ts .count) (ts .at))) ⌝ }
 {
     let n = ts.count;
@@ -63,7 +65,7 @@ fn cut_writers(ts: RwTxns, a: usize, b: usize) -> RwTxns
     while j < n {
         let s = j + gap;
         if s < n {
-            at[j] = ts.at[s];
+            at[j] = at[s];
         } else {
             at[j] = z;
         }
@@ -78,50 +80,37 @@ fn cut_writers(ts: RwTxns, a: usize, b: usize) -> RwTxns
 impl Books {
     // Committed: the transaction of epoch i, at place j, waits and drops its deps.
     pub(crate) fn closed_waiting(self, j: usize, i: u64) -> Books
-        requires { ⌜ j < 32 ⌝ }
-        ensures { λ r. ⌜ r .manager ≡ waitedAt j i (self .manager) ⌝ }
+        requires { ⌜ Closable (self .manager) j ⌝ }
+        ensures { λ r. ⌜ r .manager ≡ closedAt true j i (self .manager) ⌝ }
     {
-        let d = no_deps();
         let m = self.manager;
+        let d = no_deps();
         let mut ts = m.writers;
         ts.at[j] = RwTxn {
             epoch: i,
             waiting: 1,
             deps: d,
         };
-        let clock = m.clock;
-        let ps = m.readers;
-        Books {
-            manager: Manager {
-                clock: clock,
-                writers: ts,
-                readers: ps,
-            },
-        }
+        let mut next = m;
+        next.writers = ts;
+        Books { manager: next }
     }
 
     // Rolled back: the transaction at place j has no place any more.
-    pub(crate) fn closed_dropped(self, j: usize) -> Books
-        requires { ⌜ (j < self .manager .writers .count) × (self .manager .writers .count ≤ 32) ⌝ }
-        requires { ⌜ Tidy (self .manager) ⌝ }
-        ensures { λ r. ⌜ r .manager ≡ withWriters (cut j (suc j) (writersOf (self .manager))) (self .manager) ⌝ }
+    pub(crate) fn closed_dropped(self, j: usize, i: u64) -> Books
+        requires { ⌜ Closable (self .manager) j ⌝ }
+        ensures { λ r. ⌜ r .manager ≡ closedAt false j i (self .manager) ⌝ }
     {
         let m = self.manager;
         let ts = cut_writers(m.writers, j, j + 1);
-        let clock = m.clock;
-        let ps = m.readers;
-        Books {
-            manager: Manager {
-                clock: clock,
-                writers: ts,
-                readers: ps,
-            },
-        }
+        let mut next = m;
+        next.writers = ts;
+        Books { manager: next }
     }
 
     // LCE is settled, and what it has reached waits no longer.
     pub(crate) fn settled(self) -> Books
-        requires { ⌜ self .manager .writers .count ≤ 32 ⌝ }
+        requires { ⌜ self .manager .writers .count ≤ writersMax ⌝ }
         requires { ⌜ Tidy (self .manager) ⌝ }
         requires { ⌜ RisingOf (self .manager) ⌝ }
         ensures { λ r. ⌜ r .manager ≡ settled (writersOf (self .manager)) (self .manager) ⌝ }
@@ -129,15 +118,9 @@ impl Books {
         let m = self.manager;
         let reached = reach(m.writers, m.clock.lce);
         let ts = cut_writers(m.writers, 0, reached.count);
-        let mut clock = m.clock;
-        clock.lce = reached.lce;
-        let ps = m.readers;
-        Books {
-            manager: Manager {
-                clock: clock,
-                writers: ts,
-                readers: ps,
-            },
-        }
+        let mut next = m;
+        next.writers = ts;
+        next.clock.lce = reached.lce;
+        Books { manager: next }
     }
 }

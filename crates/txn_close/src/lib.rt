@@ -12,11 +12,10 @@ use txn_find::Found;
 use txn_find::find_writer;
 ghost use mathlib.Core.Bool.{_&&_};
 ghost use mathlib.Core.Path.{_≡_};
-ghost use Rattle.rules.specs.Close.{committedManager, rolledBackManager};
 ghost use Rattle.rules.specs.WellFormed.{managerOk};
 ghost use Rattle.rules.specs.Calls.{closeAnswer};
 ghost use Rattle.txn.specs.Managed.{managed};
-ghost use Rattle.txn_close.specs.Close.{closedTo};
+ghost use Rattle.txn_close.specs.Close.{closedTo, closedManager};
 
 // The answer, and the manager that the books leave.
 fn answered(books: Books) -> Managed
@@ -31,9 +30,10 @@ fn answered(books: Books) -> Managed
     }
 }
 
-// The first record is open, so LCE moves only where that one is closed. Refusals, in this order: 5, 2.
-pub fn commit(m: Manager, rest: bool, i: u64) -> Managed
-    ensures { λ r. ⌜ (let next = committedManager i m in
+// Commit (waits) and roll back: the transaction of epoch i is closed, and waits, or leaves no record. The first record
+// is open, so LCE moves only where that one is closed. Refusals, in this order: 5, 2.
+pub fn close_txn(m: Manager, rest: bool, i: u64, waits: bool) -> Managed
+    ensures { λ r. ⌜ (let next = closedManager waits i m in
         r ≡ managed (closeAnswer i (rest && managerOk m) m next) next m) ⌝ }
 {
     if !is_sound(m, rest) {
@@ -43,26 +43,11 @@ pub fn commit(m: Manager, rest: bool, i: u64) -> Managed
         return refused(m, Refusal::NotOpen);
     };
     let books = Books { manager: m };
-    let closed = books.closed_waiting(j, i);
-    if 0 < j {
-        return answered(closed);
-    }
-    answered(closed.settled())
-}
-
-// As commit, but the transaction leaves no record. Refusals, in this order: 5, 2.
-pub fn roll_back(m: Manager, rest: bool, i: u64) -> Managed
-    ensures { λ r. ⌜ (let next = rolledBackManager i m in
-        r ≡ managed (closeAnswer i (rest && managerOk m) m next) next m) ⌝ }
-{
-    if !is_sound(m, rest) {
-        return refused(m, Refusal::Unsound);
-    }
-    let Found::At(j) = find_writer(m.writers, i) else {
-        return refused(m, Refusal::NotOpen);
+    let closed = if waits {
+        books.closed_waiting(j, i)
+    } else {
+        books.closed_dropped(j, i)
     };
-    let books = Books { manager: m };
-    let closed = books.closed_dropped(j);
     if 0 < j {
         return answered(closed);
     }

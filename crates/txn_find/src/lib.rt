@@ -1,35 +1,25 @@
 // Where a transaction stands in the manager. 01 "Refusals that come from the input", 2.
+use places::in_use;
 use rules::Deps;
 use rules::Manager;
 use rules::RoTxn;
 use rules::RoTxns;
 use rules::RwTxn;
 use rules::RwTxns;
+use rules::limits::DEPS_MAX;
+use rules::limits::READERS_MAX;
+use rules::limits::WRITERS_MAX;
 ghost use mathlib.Core.Path.{_≡_};
 ghost use mathlib.Core.Bool.{_&&_};
-ghost use Prim.Native.Nat.{min};
 ghost use lib.Dec.{eqb};
 ghost use Rattle.lists.specs.Lists.{firstOf};
 ghost use Rattle.rules.specs.Manager.{opens, noRw, noRo, noDeps, writersOf, hasOpen, hasReader, epochAt};
 ghost use Rattle.txn_find.specs.Find.{writerAt, readerAt};
 
-// The numbers of 01 that the manager keeps to; rules/specs/Limits.antt has each under its own name.
-pub const WRITERS_MAX: usize = 32;
-pub const READERS_MAX: usize = 32;
-pub const DEPS_MAX: usize = 31;
-pub const LAST_TICKET: u64 = 4294967295;
-
 // The place of a record, or that there is none.
 pub enum Found {
     At(usize),
     Nothing,
-}
-
-// The smaller of a count and the number of places.
-pub fn least(count: usize, places: usize) -> usize
-    ensures { λ r. ⌜ r ≡ min count places ⌝ }
-{
-    if count < places { count } else { places }
 }
 
 // A record with these words is open and has epoch i.
@@ -43,7 +33,7 @@ fn is_open_at(waiting: u64, epoch: u64, i: u64) -> bool
 pub fn find_writer(ts: RwTxns, i: u64) -> Found
     ensures { λ r. ⌜ r ≡ writerAt i ts ⌝ }
 {
-    let n = least(ts.count, WRITERS_MAX);
+    let n = in_use(ts.count, WRITERS_MAX);
     let mut j: usize = 0;
     while j < n {
         if is_open_at(ts.at[j].waiting, ts.at[j].epoch, i) {
@@ -58,7 +48,7 @@ pub fn find_writer(ts: RwTxns, i: u64) -> Found
 pub fn find_reader(ps: RoTxns, t: u64) -> Found
     ensures { λ r. ⌜ r ≡ readerAt t ps ⌝ }
 {
-    let n = least(ps.count, READERS_MAX);
+    let n = in_use(ps.count, READERS_MAX);
     let mut j: usize = 0;
     while j < n {
         if ps.at[j].ticket == t {

@@ -4,12 +4,12 @@ mod read_only;
 use rules::Answer;
 use rules::Manager;
 use rules::Refusal;
+use rules::limits::LAST_TICKET;
+use rules::limits::READERS_MAX;
 use txn::Managed;
 use txn::is_sound;
 use txn::refused;
 use txn_find::Found;
-use txn_find::LAST_TICKET;
-use txn_find::READERS_MAX;
 use txn_find::find_reader;
 ghost use mathlib.Core.Bool.{_&&_};
 ghost use mathlib.Core.Path.{_≡_};
@@ -56,7 +56,9 @@ pub fn end_ro(m: Manager, rest: bool, t: u64) -> Managed
     let Found::At(j) = find_reader(m.readers, t) else {
         return refused(m, Refusal::NotOpen);
     };
-    let next = read_only::ended_ro(m, j);
+    let ps = read_only::cut_readers(m.readers, j, j + 1);
+    let mut next = m;
+    next.readers = ps;
     Managed {
         answer: Answer::EndedRo {
             left: next.readers.count,

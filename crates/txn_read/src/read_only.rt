@@ -5,16 +5,15 @@ use rules::RoTxns;
 use txn_find::no_ro;
 ghost use mathlib.Core.Bool.{true, cond};
 ghost use mathlib.Core.Path.{_≡_};
-ghost use Prim.Native.Nat.{suc, _<_, _≤_};
+ghost use Prim.Native.Nat.{_<_, _≤_};
 ghost use lib.Dec.{eqb};
 ghost use lib.ListN.{take};
 ghost use Rattle.lists.specs.Lists.{pad};
-ghost use Rattle.rules.specs.Limits.{lastTicket};
-ghost use Rattle.rules.specs.Manager.{noRo, readersOf, withReaders};
+ghost use Rattle.rules.specs.Limits.{lastTicket, readersMax};
+ghost use Rattle.rules.specs.Manager.{noRo};
 ghost use Rattle.rules.specs.ReadOnly.{begunRoManager};
 ghost use Rattle.rules.specs.WellFormed.{managerOk};
-ghost use Rattle.txn.specs.Records.{cut, TidyReaders};
-ghost use Rattle.txn_read.specs.ReadOnly.{readersWith};
+ghost use Rattle.txn.specs.Records.{cut, readersWith};
 
 // The epoch that e names: the value 0 means LCE.
 pub(crate) fn snapshot(e: u64, lce: u64) -> u64
@@ -26,29 +25,29 @@ pub(crate) fn snapshot(e: u64, lce: u64) -> u64
 // The next ticket is handed out, at the epoch that e names.
 pub(crate) fn begun_ro(m: Manager, e: u64) -> Manager
     requires { ⌜ managerOk m ≡ true ⌝ }
-    requires { ⌜ m .readers .count < 32 ⌝ }
+    requires { ⌜ m .readers .count < readersMax ⌝ }
     requires { ⌜ m .readers .next ≤ lastTicket ⌝ }
     ensures { λ r. ⌜ r ≡ begunRoManager e m ⌝ }
 {
     let at = snapshot(e, m.clock.lce);
     let mut ps = m.readers;
     let n = ps.count;
-    let next = ps.next;
+    let ticket = ps.next;
     ps.at[n] = RoTxn {
-        ticket: next,
+        ticket: ticket,
         epoch: at,
     };
     ps.count = n + 1;
-    ps.next = next + 1;
-    let mut b = m;
-    b.readers = ps;
-    b
+    ps.next = ticket + 1;
+    let mut next = m;
+    next.readers = ps;
+    next
 }
 
 // The records without those from place a up to place b.
-fn cut_readers(ps: RoTxns, a: usize, b: usize) -> RoTxns
-    requires { ⌜ (a ≤ b) × (b ≤ ps .count) × (ps .count ≤ 32) ⌝ }
-    requires { ⌜ ps .at ≡ pad 32 noRo (take (ps .count) (ps .at)) ⌝ }
+pub(crate) fn cut_readers(ps: RoTxns, a: usize, b: usize) -> RoTxns
+    requires { ⌜ (a ≤ b) × (b ≤ ps .count) × (ps .count ≤ readersMax) ⌝ }
+    requires { ⌜ ps .at ≡ pad readersMax noRo (take (ps .count) (ps .at)) ⌝ }
     ensures { λ r. ⌜ r ≡ readersWith (cut a b (take (ps .count) (ps .at))) (ps .next) ⌝ }
 {
     let n = ps.count;
@@ -59,7 +58,7 @@ fn cut_readers(ps: RoTxns, a: usize, b: usize) -> RoTxns
     while j < n {
         let s = j + gap;
         if s < n {
-            at[j] = ps.at[s];
+            at[j] = at[s];
         } else {
             at[j] = z;
         }
@@ -70,16 +69,4 @@ fn cut_readers(ps: RoTxns, a: usize, b: usize) -> RoTxns
         count: n - gap,
         next: ps.next,
     }
-}
-
-// The read-only transaction at place j has no place any more.
-pub(crate) fn ended_ro(m: Manager, j: usize) -> Manager
-    requires { ⌜ (j < m .readers .count) × (m .readers .count ≤ 32) ⌝ }
-    requires { ⌜ TidyReaders m ⌝ }
-    ensures { λ r. ⌜ r ≡ withReaders (cut j (suc j) (readersOf m)) (m .readers .next) m ⌝ }
-{
-    let rest = cut_readers(m.readers, j, j + 1);
-    let mut b = m;
-    b.readers = rest;
-    b
 }

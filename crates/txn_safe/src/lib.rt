@@ -1,18 +1,18 @@
 // Moving LSE, and how far it may move, on the manager by value. 01 "The books", Move LSE; 004 III-C 5.
 use epoch::predecessor;
+use places::in_use;
 use rules::Answer;
 use rules::Deps;
 use rules::Manager;
 use rules::Refusal;
 use rules::RoTxns;
 use rules::RwTxns;
+use rules::limits::DEPS_MAX;
+use rules::limits::READERS_MAX;
+use rules::limits::WRITERS_MAX;
 use txn::Managed;
 use txn::is_sound;
 use txn::refused;
-use txn_find::DEPS_MAX;
-use txn_find::READERS_MAX;
-use txn_find::WRITERS_MAX;
-use txn_find::least;
 ghost use mathlib.Core.Bool.{_&&_};
 ghost use mathlib.Core.List.{map, foldr};
 ghost use mathlib.Core.Path.{_≡_};
@@ -30,14 +30,14 @@ ghost use Rattle.txn_safe.specs.Safe.{depBlocks, underDeps, movedTo};
 fn dep_blocks(ts: RwTxns, t: u64) -> bool
     ensures { λ r. ⌜ r ≡ anyOf (depBlocks t) (take (ts .count) (ts .at)) ⌝ }
 {
-    let n = least(ts.count, WRITERS_MAX);
+    let n = in_use(ts.count, WRITERS_MAX);
     let mut held = false;
     let mut i: usize = 0;
     'writers: while i < n {
         if ts.at[i].waiting == 0 {
             let x = ts.at[i];
             let ds = x.deps;
-            let k = least(ds.count, DEPS_MAX);
+            let k = in_use(ds.count, DEPS_MAX);
             let mut j: usize = 0;
             while j < k {
                 if ds.at[j] <= t {
@@ -56,7 +56,7 @@ fn dep_blocks(ts: RwTxns, t: u64) -> bool
 fn reader_blocks(ps: RoTxns, t: u64) -> bool
     ensures { λ r. ⌜ r ≡ anyOf (λ p. ltb (p .epoch) t) (take (ps .count) (ps .at)) ⌝ }
 {
-    let n = least(ps.count, READERS_MAX);
+    let n = in_use(ps.count, READERS_MAX);
     let mut i: usize = 0;
     while i < n {
         if ps.at[i].epoch < t {
@@ -86,7 +86,7 @@ fn lower(a: u64, b: u64) -> u64
 fn under_readers(ps: RoTxns, top: u64) -> u64
     ensures { λ r. ⌜ r ≡ foldr min top (map (λ p. p .epoch) (take (ps .count) (ps .at))) ⌝ }
 {
-    let n = least(ps.count, READERS_MAX);
+    let n = in_use(ps.count, READERS_MAX);
     let mut low = top;
     let mut i: usize = 0;
     while i < n {
@@ -100,7 +100,7 @@ fn under_readers(ps: RoTxns, top: u64) -> u64
 fn under_deps(ds: Deps, top: u64) -> u64
     ensures { λ r. ⌜ r ≡ foldr min top (map (λ d. d - 1) (take (ds .count) (ds .at))) ⌝ }
 {
-    let k = least(ds.count, DEPS_MAX);
+    let k = in_use(ds.count, DEPS_MAX);
     let mut low = top;
     let mut j: usize = 0;
     while j < k {
@@ -114,7 +114,7 @@ fn under_deps(ds: Deps, top: u64) -> u64
 fn under_writers(ts: RwTxns, top: u64) -> u64
     ensures { λ r. ⌜ r ≡ foldr min top (gather underDeps (take (ts .count) (ts .at))) ⌝ }
 {
-    let n = least(ts.count, WRITERS_MAX);
+    let n = in_use(ts.count, WRITERS_MAX);
     let mut low = top;
     let mut i: usize = 0;
     while i < n {

@@ -1,5 +1,6 @@
 // Whether the manager is sound. 01 "Refusals that come from the state", last paragraph.
 use epoch::Epoch;
+use places::in_use;
 use rules::Clock;
 use rules::Deps;
 use rules::Manager;
@@ -7,11 +8,10 @@ use rules::RoTxn;
 use rules::RoTxns;
 use rules::RwTxn;
 use rules::RwTxns;
-use txn_find::DEPS_MAX;
-use txn_find::LAST_TICKET;
-use txn_find::READERS_MAX;
-use txn_find::WRITERS_MAX;
-use txn_find::least;
+use rules::limits::DEPS_MAX;
+use rules::limits::LAST_TICKET;
+use rules::limits::READERS_MAX;
+use rules::limits::WRITERS_MAX;
 ghost use mathlib.Core.Bool.{false, _||_};
 ghost use mathlib.Core.Path.{_≡_};
 ghost use lib.Dec.{eqb};
@@ -37,7 +37,7 @@ fn clock_ok(c: Clock) -> bool
 
 // ---- read-write transactions
 
-// At most 31, rising, and 0 behind them.
+// At most DEPS_MAX, rising, and 0 behind them.
 fn deps_ok(t: RwTxn, lse: u64) -> bool
     ensures { λ r. ⌜ r ≡ depsOk lse t ⌝ }
 {
@@ -110,7 +110,7 @@ fn seen_open(seen: bool, waiting: u64) -> bool
 fn writers_ranked(ts: RwTxns, c: Clock) -> bool
     ensures { λ r. ⌜ r ≡ writersRanked (c .lce) c false (take (ts .count) (ts .at)) ⌝ }
 {
-    let n = least(ts.count, WRITERS_MAX);
+    let n = in_use(ts.count, WRITERS_MAX);
     let mut lo = c.lce;
     let mut seen = false;
     let mut i: usize = 0;
@@ -187,7 +187,7 @@ fn reader_ok(p: RoTxn, lo: u64, next: u64, c: Clock) -> bool
 fn readers_ranked(ps: RoTxns, c: Clock) -> bool
     ensures { λ r. ⌜ r ≡ readersRanked 0 (ps .next) c (take (ps .count) (ps .at)) ⌝ }
 {
-    let n = least(ps.count, READERS_MAX);
+    let n = in_use(ps.count, READERS_MAX);
     let mut lo: u64 = 0;
     let mut i: usize = 0;
     while i < n {

@@ -2,11 +2,11 @@
 use rules::Deps;
 use rules::Manager;
 use rules::RwTxn;
-use txn_find::DEPS_MAX;
+use rules::limits::DEPS_MAX;
 ghost use mathlib.Core.Bool.{true};
 ghost use mathlib.Core.Path.{_≡_};
 ghost use Prim.Native.Nat.{_<_, _≤_};
-ghost use Rattle.rules.specs.Limits.{lastEpoch};
+ghost use Rattle.rules.specs.Limits.{lastEpoch, writersMax};
 ghost use Rattle.rules.specs.Begin.{begunManager};
 ghost use Rattle.rules.specs.WellFormed.{managerOk};
 
@@ -14,7 +14,7 @@ ghost use Rattle.rules.specs.WellFormed.{managerOk};
 // that are open before it, in order.
 pub(crate) fn begun(m: Manager) -> Manager
     requires { ⌜ managerOk m ≡ true ⌝ }
-    requires { ⌜ m .writers .count < 32 ⌝ }
+    requires { ⌜ m .writers .count < writersMax ⌝ }
     requires { ⌜ m .clock .ec ≤ lastEpoch ⌝ }
     ensures { λ r. ⌜ r ≡ begunManager m ⌝ }
 {
@@ -38,10 +38,8 @@ pub(crate) fn begun(m: Manager) -> Manager
     };
     ts.count = n + 1;
     let clock = tick.clock;
-    let ps = m.readers;
-    Manager {
-        clock: clock,
-        writers: ts,
-        readers: ps,
-    }
+    let mut next = m;
+    next.clock = clock;
+    next.writers = ts;
+    next
 }

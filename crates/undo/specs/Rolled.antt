@@ -13,14 +13,14 @@ use Rattle.rules.specs.Store.{noPartition}
 use Rattle.rules.specs.declared.Partition.{Partition}
 use Rattle.rules.specs.declared.Partitions.{Partitions}
 use Rattle.lent.specs.declared.Table.{Table}
-use Rattle.visible.specs.Bare.{entriesIn}
+use Rattle.area.specs.Area.{entriesIn, baseOf, areaAt}
 use Rattle.rewrite_plan.specs.Plan.{spansIn, planOf, rollEpochs}
 use Rattle.rewrite.specs.Kept.{rewrittenOf}
 use Rattle.rewrite.specs.Copied.{rowsCopied}
-use Rattle.visible.specs.declared.Area.{Area}
+use Rattle.area.specs.declared.Area.{Area}
 use Rattle.rewrite_plan.specs.declared.Plan.{Plan}
 use Rattle.rewrite.specs.declared.Rewritten.{Rewritten}
-use Rattle.compact.specs.Areas.{baseOf, areaAt, movedTo}
+use Rattle.partition.specs.Areas.{movedTo}
 use Rattle.undo.specs.declared.Rolled.{Rolled}
 
 abbrev pub rolledOf : Table → Partitions → Rolled

@@ -1,21 +1,12 @@
 -- The entries of an area as spans, whatever the words: what is shown and what a rewrite keeps needs only their
 -- number. 01 "Lots".
--- In order: entriesIn, noEntry, bareSpan, bare. Laws: proofs/Laws.
+-- In order: bareSpan, bare. Laws: proofs/Laws.
 -- Assumes nothing.
 use mathlib.Core.List.{List, [], _∷_}
 use Prim.Native.Nat.{ℕ, _-_}
-use lib.ListN.{take, replicate}
+use lib.ListN.{replicate}
 use Rattle.rules.specs.declared.Entry.{Entry}
 use Rattle.rules.specs.Span.{Span}
-use Rattle.visible.specs.declared.Area.{Area}
-
--- the entries in use, at most 64
-abbrev pub entriesIn : Area → List Entry
-entriesIn a = take (a .count) (a .at)
-
--- what stands in a place that is not in use
-abbrev pub noEntry : Entry
-noEntry = record { epoch = 0; end = 0; mark = 0 }
 
 -- an entry with k rows, all 0
 abbrev pub bareSpan : ℕ → Entry → Span

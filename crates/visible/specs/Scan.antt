@@ -12,10 +12,10 @@ use Rattle.rules.specs.Limits.{rowsMax}
 use Rattle.rules.specs.Bitmap.{bytesFor, bitmapAfter}
 use Rattle.rules.specs.WellFormed.{endsOk}
 use Rattle.visible.specs.declared.View.{View}
-use Rattle.visible.specs.declared.Area.{Area}
+use Rattle.area.specs.declared.Area.{Area}
 use Rattle.visible.specs.declared.Scanned.{Scanned}
 use Rattle.visible.specs.View.{seesView, appliesView}
-use Rattle.visible.specs.Bare.{entriesIn}
+use Rattle.area.specs.Area.{entriesIn}
 use Rattle.visible.specs.Flags.{flagsOf}
 
 -- the ends are those of so many rows, which a partition can have, and the lent bytes are enough

@@ -10,7 +10,7 @@ use Rattle.rules.specs.Manager.{noDeps}
 use Rattle.rules.specs.Sees.{seesRw, appliesRw, upTo}
 use Rattle.visible.specs.declared.View.{View}
 
--- the deps in use, at most 31
+-- the deps in use, at most depsMax
 abbrev pub depsIn : View → List ℕ
 depsIn v = take (v .deps .count) (v .deps .at)
 

@@ -1,16 +1,16 @@
 // The greatest delete (01: clearing) that a reader applies: it alone says which rows are hidden.
 // 01 "Who sees a row".
-use crate::Area;
-use crate::ENTRIES_MAX;
 use crate::View;
-use crate::places::in_use;
 use crate::sees::applies;
+use area::Area;
+use places::in_use;
 use rules::Entry;
+use rules::limits::ENTRIES_MAX;
 ghost use mathlib.Core.Path.{_≡_};
 ghost use Prim.Native.Nat.{_<_};
 ghost use lib.ListN.{take};
 ghost use Rattle.rules.specs.Limits.{entriesMax};
-ghost use Rattle.rules.proofs.Laws.TopDelete.{topDelete, topStep, covers};
+ghost use Rattle.rules.specs.Top.{topDelete, topStep, covers};
 ghost use Rattle.visible.specs.View.{appliesView};
 ghost use Rattle.visible.specs.Bare.{bareSpan, bare};
 ghost use Rattle.visible.specs.Passes.{asTop};

@@ -1,6 +1,6 @@
 // Whether the ends of entries are those of so many rows. 01 *sound*: ends never fall, and rise at a rows entry;
 // the last is the row count.
-use crate::Area;
+use area::Area;
 use rules::Entry;
 ghost use mathlib.Core.Path.{_≡_};
 ghost use mathlib.Core.Bool.{_&&_, _||_};

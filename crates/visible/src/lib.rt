@@ -1,15 +1,17 @@
 // Who sees a row, and what a scan writes. 01 "Who sees a row"; 004 III-C 3.
 use crate::ends::ends_ok;
 use crate::pack::bytes_for;
-use crate::places::in_use;
 use crate::write::write;
+use area::Area;
+use places::in_use;
 use rules::Deps;
-use rules::Entry;
+use rules::limits::DEPS_MAX;
+use rules::limits::ENTRIES_MAX;
+use rules::limits::ROWS_MAX;
 
 pub mod delete;
 mod ends;
 pub mod pack;
-pub mod places;
 mod rows;
 pub mod sees;
 mod write;
@@ -17,20 +19,6 @@ mod write;
 ghost use mathlib.Core.Path.{_≡_};
 ghost use Rattle.visible.specs.View.{pageView};
 ghost use Rattle.visible.specs.Scan.{scanned, bitmapScanned};
-
-// The rows and the entries that a partition has room for: rules' rowsMax and entriesMax.
-const ROWS_MAX: usize = 512;
-const ENTRIES_MAX: usize = 64;
-
-// rules' depsMax
-const DEPS_MAX: usize = 31;
-
-// The entries of one partition (01: lot), those in use first.
-#[repr(C)]
-pub struct Area {
-    pub at: [Entry; 64],
-    pub count: usize,
-}
 
 // A reader: rw is 1 for a read-write transaction (01: load) of this epoch with these deps; else it is a
 // read-only one (01: page) at this epoch, and the deps are not read.

@@ -1,21 +1,21 @@
 // Of each row in order, whether a reader is shown it. 01 "Who sees a row".
-use crate::Area;
 use crate::View;
 use crate::delete::Top;
 use crate::delete::hides;
 use crate::sees::sees;
+use area::Area;
 use rules::Entry;
 ghost use mathlib.Core.Path.{_≡_};
 ghost use mathlib.Core.Bool.{true, not, _&&_, cond};
 ghost use mathlib.Core.List.{_++_};
 ghost use Prim.Native.Nat.{_≤_, _-_};
-ghost use lib.ListN.{length, take, drop};
-ghost use Rattle.lists.specs.Lists.{ones};
+ghost use lib.ListN.{length, take, drop, replicate};
+ghost use Rattle.lists.specs.Lists.{over, ones};
 ghost use Rattle.rules.specs.Limits.{entriesMax};
 ghost use Rattle.rules.specs.WellFormed.{endsOk};
-ghost use Rattle.rules.proofs.Laws.TopDelete.{covers};
+ghost use Rattle.rules.specs.Top.{covers};
 ghost use Rattle.visible.specs.View.{seesView};
-ghost use Rattle.visible.specs.Passes.{asTop, flagsUnder, filled};
+ghost use Rattle.visible.specs.Passes.{asTop, flagsUnder};
 
 // The rows of the entry at index i: all are shown, or none.
 fn shows(v: View, top: Top, e: Entry, i: usize) -> bool
@@ -30,7 +30,8 @@ fn shows(v: View, top: Top, e: Entry, i: usize) -> bool
 // b at each index from `from` up to, not including, `to`; answers how many are made true.
 fn fill(shown: &mut [bool], from: usize, to: usize, b: bool) -> usize
     requires { ⌜ (from ≤ to) × (to ≤ length (now shown)) ⌝ }
-    ensures { λ r. ⌜ (r ≡ cond b (to - from) 0) × (now (shown .exit) ≡ filled (now (shown .entry)) from to b) ⌝ }
+    ensures { λ r. ⌜ (r ≡ cond b (to - from) 0)
+        × (now (shown .exit) ≡ over from (replicate (to - from) b) (now (shown .entry))) ⌝ }
 {
     let mut i = from;
     while i < to {

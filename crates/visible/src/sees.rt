@@ -1,8 +1,8 @@
 // Which epochs a reader sees, and which deletes (01: clearings) it applies. 01 "Who sees a row".
-use crate::DEPS_MAX;
 use crate::View;
-use crate::places::in_use;
+use places::in_use;
 use rules::Deps;
+use rules::limits::DEPS_MAX;
 ghost use mathlib.Core.Path.{_≡_};
 ghost use lib.ListN.{take};
 ghost use Rattle.lists.specs.Lists.{elem};

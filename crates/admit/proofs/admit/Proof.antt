@@ -15,30 +15,30 @@ sound : (c : tie.Else1) → let a = c .before .before .args in soundOf (a .state
 sound c = sym (c .before .is-sound .ensures) ∙ not-false _ (c .if1 .left)
 
 known : (c : tie.Else2) → leb partitionsMax (c .before .before .before .args .p) ≡ false
-known c = lt-leb 8 _ (c .if2 .left)
-
-is-sound-requires : tie.Need-is-sound-requires
-is-sound-requires c κs = search needs
+known c = lt-leb partitionsMax _ (c .if2 .left)
 
 returns : tie.Need-returns
 returns c = rw (sym (c .before .is-sound .ensures) ∙ not-true _ (c .if1 .taken))
 
 returns-2 : tie.Need-returns-2
-returns-2 c = rw (sound (c .before), le-leb 8 (c .before .before .before .args .p) (c .if2 .taken))
+returns-2 c = rw (sound (c .before), le-leb partitionsMax (c .before .before .before .args .p) (c .if2 .taken))
 
 returns-3 : tie.Need-returns-3
 returns-3 c = let e = c .before in
     rw (sound (e .before), known e, not-true (e .before .before .before .args .is-open) (c .if3 .taken))
-
-mul-q : tie.Need-mul-q
-mul-q c = search needs
-
-element-copy-out-q : tie.Need-element-copy-out-q
-element-copy-out-q c = search needs
 
 returns-4 : tie.Need-returns-4
 returns-4 c = let o = c .before .before in let e = o .before in
     rw (sound (e .before), known e, not-false (e .before .before .before .args .is-open) (o .if3 .left))
 
 pub admit-spec : {M : Type 1} → statement M
-admit-spec = tie.close (tie.spec is-sound-requires returns returns-2 returns-3 mul-q element-copy-out-q returns-4)
+admit-spec =
+    tie.close
+    (tie.spec
+    (λ c κs. search needs)
+    returns
+    returns-2
+    returns-3
+    (λ c. search needs)
+    (λ c. search needs)
+    returns-4)

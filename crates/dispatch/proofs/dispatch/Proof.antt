@@ -27,7 +27,6 @@ use denote.Laws.{Is}
 use denote.Builtin.{u64, u8}
 use denote.Slice.{Room, slice-vals, mut-slice-tells, shr-slice-tells}
 use denote.Signature.{plain}
-use denote.Steps.{owned}
 use denote.Struct.Laws as LL
 use denote.Enum.Laws as EL
 use denote.Triple.Spec.{Meets, tripleOf}
@@ -43,11 +42,12 @@ use Rattle.rules.proofs.Command.Laws as Cm′
 use Rattle.rules.proofs.Entry as T
 use Rattle.rules.proofs.State as K
 use Rattle.rules.proofs.State.Laws as K′
-use Rattle.lent.proofs.Frame.{allocs-frame, sets}
-use Rattle.lent.proofs.Lend.{lent-by}
-use Rattle.dispatch.proofs.Groups.{held, comes-in}
-use Rattle.dispatch.proofs.Arms.{Lenders}
-use Rattle.dispatch.proofs.Turning.{books, command}
+use Rattle.walks.proofs.Frame.{allocs-frame, sets}
+use Rattle.walks.proofs.Lend.{lent-by, held}
+use Rattle.walks.proofs.Groups.{comes-in}
+use Rattle.shapes.proofs.Callers.{Lenders}
+use Rattle.shapes.proofs.Core.{books}
+use Rattle.dispatch.proofs.Turning.{command}
 use Rattle.dispatch.proofs.dispatch.Key.{name as #dispatch·dispatch}
 use Rattle.dispatch.proofs.dispatch as f
 use Rattle.dispatch.proofs.dispatch.Statement as stated

@@ -56,10 +56,10 @@ use Rattle.rules.proofs.Clock as T
 use Rattle.rules.proofs.Clock.Laws as T′
 use Rattle.epoch.proofs.Ticked as K
 use Rattle.epoch.proofs.Ticked.Laws as K′
-use Rattle.epoch.proofs.lent.advance as advance
-use Rattle.epoch.proofs.lent.advance.Symbol as advance-def
-use Rattle.epoch.proofs.lent.advance.Symbol.{name as #epoch·advance}
-use Rattle.epoch.proofs.lent.advance.Met as advance-thm
+use Rattle.epoch.proofs.tick.advance as advance
+use Rattle.epoch.proofs.tick.advance.Symbol as advance-def
+use Rattle.epoch.proofs.tick.advance.Symbol.{name as #epoch·advance}
+use Rattle.epoch.proofs.tick.advance.Met as advance-thm
 use Rattle.epoch.proofs.advanced.Key.{name as #epoch·advanced}
 use Rattle.epoch.proofs.advanced as f
 use Rattle.epoch.proofs.advanced.Statement as stated
@@ -245,4 +245,4 @@ advanced-spec 𝓤 H 𝓜 𝓖 𝓡 =
       (code.unfolded 𝓤 H 𝓜 𝓡)
     (advanced-meets 𝓤 H (𝓖 .A) (givenOf 𝓤 H 𝓜 𝓖) (𝓜 .mem) (𝓡 .run) (tablesOf 𝓤 H 𝓜 (tables 𝓤 H 𝓜 𝓡 code.env))
     (cited 𝓤 H (Advance 𝓤 H (𝓖 .A) (𝓜 .mem) (𝓡 .run)) 𝓜 𝓡 code.env #epoch·advance advance-def.routine
-      code.calls-epoch·lent·advance (advance-thm.met 𝓤 H 𝓜 𝓖 𝓡)))
+      code.calls-epoch·tick·advance (advance-thm.met 𝓤 H 𝓜 𝓖 𝓡)))

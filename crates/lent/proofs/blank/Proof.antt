@@ -1,10 +1,9 @@
 -- `lent::blank` meets its contract: the table made is the empty one.
+-- Assumes nothing.
 use mathlib.Core.Path.{refl}
 use Rattle.lent.specs.Entries.{filled0}
 use Rattle.lent.proofs.blank.Statement.{statement}
 use Rattle.lent.proofs.blank.Tie as tie
-use Rattle.lent.proofs.blank.Reads as reads
-use Rattle.lent.proofs.blank.Lts as lts
 
 returns : tie.Need-returns
 unfolding filled0

@@ -1,27 +1,27 @@
 -- The entries of appended spans: those that stay and one more. Definitions: specs/Append.antt, here and in
 -- rules.
--- In order: entries of appended spans; how many stay, by index; written over an area.
+-- In order: entries of appended spans; how many stay, by index.
 -- Elsewhere: what it makes of a store (Laws/Written.antt).
 -- Assumes nothing.
 use mathlib.Core.Path.{_≡_, refl, _∙_}
 use mathlib.Core.Bool.{_&&_, cond}
-use mathlib.Core.List.{List, [], _∷_, _++_, append-nil, append-assoc}
+use mathlib.Core.List.{List, [], _∷_, _++_, append-nil}
 use Prim.Native.Nat.{ℕ, suc, _+_, _-_, _*_, _≤_, _<_}
-use native.Mathlib.Numerals.{add-one}
 use native.Mathlib.Omega.{arith}
-use lib.ListN.{length, take, drop, getD, set, length-append, take-append-drop}
-use lib.Seq.{take-add, set-split, getD-take, getD-drop}
+use lib.ListN.{length, take, drop, getD, length-append}
+use lib.Seq.{getD-take, getD-drop}
 use lib.Dec.{ltb}
 use borrow.Author.Tests.{lt-ltb, le-ltb}
-use Rattle.lists.specs.Lists.{part, over}
+use Rattle.lists.specs.Lists.{part}
 use Rattle.lists.proofs.Laws.Bools.{split}
 use Rattle.lists.proofs.Laws.Parts.{length-part}
 use Rattle.rules.specs.Limits.{entriesMax}
 use Rattle.rules.specs.Span.{Span, entriesOf, wordsOf}
-use Rattle.rules.specs.Append.{isRowsOf, extended, appended}
+use Rattle.rules.specs.Append.{isRowsOf, extended}
 use Rattle.rules.specs.declared.Entry.{Entry}
 use Rattle.rules.specs.declared.Partition.{Partition}
-use Rattle.partition.specs.Append.{noEntry, grows, keptIn}
+use Rattle.partition.specs.Append.{grows, keptIn}
+use Rattle.lent.specs.Entries.{none}
 
 -- ---- entries of appended spans
 
@@ -64,32 +64,16 @@ kept-le i (e ∷ []) = split (grows i e) (λ t. rw t (omega arith)) (λ n. rw n 
 kept-le i (e ∷ f ∷ es) = let ih = kept-le i (f ∷ es) in omega arith
 
 kept-at : (i n b : ℕ) (entries es : List Entry) → length es ≡ n
-    → ((j : ℕ) → j < n → getD es j noEntry ≡ getD entries (b + j) noEntry)
-    → cond (ltb 0 n && grows i (getD entries (b + (n - 1)) noEntry)) (n - 1) n ≡ keptOf i es
+    → ((j : ℕ) → j < n → getD es j none ≡ getD entries (b + j) none)
+    → cond (ltb 0 n && grows i (getD entries (b + (n - 1)) none)) (n - 1) n ≡ keptOf i es
 kept-at i n b entries [] l f = rw (le-ltb 0 n (omega arith)) (omega arith)
 kept-at i n b entries (e ∷ es) l f =
     let k : n - 1 ≡ length es = omega arith in let g = f (length es) (omega arith) in
-    rw (lt-ltb 0 n (omega arith), k, ← g, kept-last i e es noEntry, ← l)
+    rw (lt-ltb 0 n (omega arith), k, ← g, kept-last i e es none, ← l)
 
 pub keptIn-is : (entries : List Entry) (q : Partition) (i : ℕ) → entriesMax * q .area + q .entries ≤ length entries
     → keptIn entries q i ≡ keptOf i (part (entriesMax * q .area) (q .entries) entries)
 unfolding keptIn
 keptIn-is entries q i h = let b = entriesMax * q .area in
     kept-at i (q .entries) b entries (part b (q .entries) entries) (length-part b (q .entries) entries h)
-    (λ j l. getD-take (q .entries) (drop b entries) j noEntry l ∙ getD-drop b entries j noEntry)
-
--- ---- written over an area
-
-module _ {A : Type 0} where
-  -- what lies there, and more behind it
-  pub over-behind : (b j : ℕ) (vs xs : List A) → b + j ≤ length xs
-      → over b (part b j xs ++ vs) xs ≡ over (b + j) vs xs
-  over-behind b j vs xs h =
-      let l = length-part b j xs h in let e : b + (j + length vs) ≡ b + j + length vs = omega arith in
-      rw (length-append (part b j xs) vs, l, e, take-add b j xs) (simp append-assoc)
-
-  pub over-one : (b : ℕ) (x : A) (xs : List A) → b < length xs → over b (x ∷ []) xs ≡ set xs b x
-  over-one b x xs h = rw (add-one b, set-split xs b x h)
-
-  pub over-none : (b : ℕ) (xs : List A) → over b [] xs ≡ xs
-  over-none b xs = let e : b + 0 ≡ b = omega arith in rw e (take-append-drop b xs)
+    (λ j l. getD-take (q .entries) (drop b entries) j none l ∙ getD-drop b entries j none)

@@ -13,9 +13,9 @@ use Rattle.lists.proofs.Laws.Tests.{and-three}
 use Rattle.rules.specs.Limits.{areasMax, rowsMax, entriesMax}
 use Rattle.rules.specs.declared.Entry.{Entry}
 use Rattle.rules.specs.declared.Partition.{Partition}
-use Rattle.partition.specs.Append.{inRange, noEntry, fullIf, stays, grows, keptIn, appendAt, appendPlan}
-use Rattle.partition.specs.Append.{clearPlan}
-use Rattle.partition.specs.declared.Plan.{Plan}
+use Rattle.partition.specs.Append.{inRange, fullIf, stays, grows, keptIn, appendAt, appendPlan}
+use Rattle.lent.specs.Entries.{none}
+use Rattle.partition.specs.Append.{placed, clearPlan}
 
 -- ---- words in range
 
@@ -35,19 +35,6 @@ unfolding inRange
 inRange-within q w = rw (lt-ltb (q .area) areasMax (w .area), le-leb (q .rows) rowsMax (w .rows))
     (le-leb (q .entries) entriesMax (w .entries))
 
-module _ (q : Partition) where
-  pub inRange-area : areasMax ≤ q .area → inRange q ≡ false
-  unfolding inRange
-  inRange-area h = rw (le-ltb (q .area) areasMax h)
-
-  pub inRange-rows : q .area < areasMax → rowsMax < q .rows → inRange q ≡ false
-  unfolding inRange
-  inRange-rows a h = rw (lt-ltb (q .area) areasMax a, lt-leb (q .rows) rowsMax h)
-
-  pub inRange-entries : q .area < areasMax → q .rows ≤ rowsMax → inRange q ≡ leb (q .entries) entriesMax
-  unfolding inRange
-  inRange-entries a h = rw (lt-ltb (q .area) areasMax a, le-leb (q .rows) rowsMax h)
-
 -- ---- append
 
 module _ (n : ℕ) (q : Partition) (i k : ℕ) where
@@ -59,13 +46,8 @@ module _ (n : ℕ) (q : Partition) (i k : ℕ) where
   unfolding appendAt
   appendAt-entries h e = rw (le-ltb (rowsMax - q .rows) k h, le-leb entriesMax n e)
 
-  -- the entry and the rows that are written
-  abbrev pub placed : Plan
-  placed = record { full = fullIf false false;
-    index = entriesMax * q .area + n; entry = record { epoch = i; end = q .rows + k; mark = 0 };
-    row = rowsMax * q .area + q .rows; rows = q .rows + k; entries = n + 1 }
-
-  pub appendAt-fits : k ≤ rowsMax - q .rows → n < entriesMax → appendAt n q i k ≡ placed
+  pub appendAt-fits : k ≤ rowsMax - q .rows → n < entriesMax → appendAt n q i k ≡ placed n q
+      (rowsMax * q .area + q .rows) (record { epoch = i; end = q .rows + k; mark = 0 })
   unfolding appendAt
   appendAt-fits h e = rw (le-ltb (rowsMax - q .rows) k h, lt-leb entriesMax n e)
 
@@ -89,12 +71,12 @@ module _ (entries : List Entry) (q : Partition) (i k : ℕ) where
       appendPlan-first h = rw (t, ne-eqb k 0 some, le-ltb 0 (q .entries) (omega arith), h)
 
       module _ (used : q .entries ≡ 0 → ⊥) where
-        pub appendPlan-grows : grows i (getD entries (entriesMax * q .area + (q .entries - 1)) noEntry) ≡ true
+        pub appendPlan-grows : grows i (getD entries (entriesMax * q .area + (q .entries - 1)) none) ≡ true
             → appendPlan entries q i k ≡ appendAt (q .entries - 1) q i k
         unfolding appendPlan keptIn
         appendPlan-grows g = rw (t, ne-eqb k 0 some, lt-ltb 0 (q .entries) (omega arith), g)
 
-        pub appendPlan-adds : grows i (getD entries (entriesMax * q .area + (q .entries - 1)) noEntry) ≡ false
+        pub appendPlan-adds : grows i (getD entries (entriesMax * q .area + (q .entries - 1)) none) ≡ false
             → appendPlan entries q i k ≡ appendAt (q .entries) q i k
         unfolding appendPlan keptIn
         appendPlan-adds g = rw (t, ne-eqb k 0 some, lt-ltb 0 (q .entries) (omega arith), g)
@@ -111,8 +93,7 @@ module _ (q : Partition) (i : ℕ) where
     unfolding clearPlan
     clearPlan-full h = rw (t, le-leb entriesMax (q .entries) h)
 
-    pub clearPlan-fits : q .entries < entriesMax → clearPlan q i ≡ record { full = fullIf false false;
-        index = entriesMax * q .area + q .entries; entry = record { epoch = i; end = q .rows; mark = 1 };
-        row = rowsMax * areasMax; rows = q .rows; entries = q .entries + 1 }
+    pub clearPlan-fits : q .entries < entriesMax → clearPlan q i ≡ placed (q .entries) q (rowsMax * areasMax)
+        (record { epoch = i; end = q .rows; mark = 1 })
     unfolding clearPlan
     clearPlan-fits h = rw (t, lt-leb entriesMax (q .entries) h)

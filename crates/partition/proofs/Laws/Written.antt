@@ -11,7 +11,8 @@ use lib.Seq.{length-take-le, set-out}
 use lib.Dec.{ltb, leb}
 use borrow.Author.Tests.{ltb-true, ltb-false, leb-true, leb-false, lt-ltb, le-ltb, le-leb}
 use Rattle.lists.specs.Lists.{over}
-use Rattle.lists.proofs.Laws.Bools.{split, same-test}
+use Rattle.lists.proofs.Laws.Bools.{split, same-test, or-false-left, or-false-right}
+use Rattle.lists.proofs.Laws.Over.{over-one, over-behind}
 use Rattle.lists.proofs.Laws.Parts.{over-part, take-part}
 use Rattle.rules.specs.Limits.{partitionsMax, areasMax, rowsMax, entriesMax}
 use Rattle.rules.specs.Span.{Span, entriesOf, wordsOf}
@@ -23,13 +24,12 @@ use Rattle.rules.proofs.Laws.Append.{words-appended, words-cleared, length-clea
 use Rattle.rules.proofs.Laws.WellFormed.{StoreOk}
 use Rattle.partition.specs.Rows.{putRows}
 use Rattle.partition.specs.Append.{inRange, fullIf, stays, keptIn, appendAt, appendPlan, clearPlan}
-use Rattle.partition.specs.Append.{writtenBy}
+use Rattle.partition.specs.Append.{placed, writtenBy}
 use Rattle.partition.specs.declared.Plan.{Plan}
-use Rattle.partition.proofs.Laws.Rows.{putRows-fits}
-use Rattle.partition.proofs.Laws.Plan.{Within, inRange-within, placed, appendAt-fits, appendPlan-none}
+use Rattle.partition.proofs.Laws.Rows.{putRows-fits, putRows-none}
+use Rattle.partition.proofs.Laws.Plan.{Within, inRange-within, appendAt-fits, appendPlan-none}
 use Rattle.partition.proofs.Laws.Plan.{appendPlan-kept, clearPlan-full, clearPlan-fits}
 use Rattle.partition.proofs.Laws.Append.{keptOf, rowsTo, entries-extended, kept-le, keptIn-is}
-use Rattle.partition.proofs.Laws.Append.{over-behind, over-one, over-none}
 
 -- ---- what is written
 
@@ -50,10 +50,6 @@ written-laid p ss plan batch st w = λ j. record {
       area = partitionAt p st .area; rows = w .row-count j; entries = w .entry-count j });
     spare = st .state .partitions .spare } };
   rows = w .rows j; entries = w .entries j }
-
-put-none : (n : ℕ) (xs : List ℕ) → putRows n [] xs ≡ xs
-unfolding putRows
-put-none n xs = split (leb (n + 0) (length xs)) (λ t. rw t (over-none n xs)) (λ f. rw f)
 
 -- ---- a partition of a sound store
 
@@ -81,7 +77,7 @@ module _ (st : Store) (ok : StoreOk st) (p : ℕ) (h : p < partitionsMax) where
       ∙ sym (set-out (st .entries) (entriesMax * areasMax) _ (let l = ok .entries-length in omega arith));
     rows = ap (λ ws. over (rowsMax * q .area) ws (st .rows)) (k .words-are)
       ∙ over-part (rowsMax * q .area) (q .rows) (st .rows) rows-inside
-      ∙ sym (put-none (rowsMax * areasMax) (st .rows));
+      ∙ sym (putRows-none (rowsMax * areasMax) (st .rows));
     row-count = sym (k .row-count); entry-count = sym (k .entry-count) }
 
 -- ---- append
@@ -89,11 +85,12 @@ module _ (st : Store) (ok : StoreOk st) (p : ℕ) (h : p < partitionsMax) where
 appendAt-full : (n : ℕ) (q : Partition) (i k : ℕ)
     → appendAt n q i k .full ≡ fullIf (ltb (rowsMax - q .rows) k) (leb entriesMax n)
 unfolding appendAt
-appendAt-full n q i k = split (ltb (rowsMax - q .rows) k || leb entriesMax n) (λ t. rw t) (λ f. rw f)
+appendAt-full n q i k = let a = ltb (rowsMax - q .rows) k in let b = leb entriesMax n in
+    split (a || b) (λ t. rw t) (λ f. rw (or-false-left a b f, or-false-right a b f))
 
--- 65 or more, each way
-more-than-64 : (n m : ℕ) → m ≡ n + 1 → leb entriesMax n ≡ ltb entriesMax m
-more-than-64 n m e = same-test (leb entriesMax n) (ltb entriesMax m)
+-- more than an area has room for, each way
+one-too-many : (n m : ℕ) → m ≡ n + 1 → leb entriesMax n ≡ ltb entriesMax m
+one-too-many n m e = same-test (leb entriesMax n) (ltb entriesMax m)
     (λ t. let g = leb-true entriesMax n t in lt-ltb entriesMax m (omega arith))
     (λ t. let g = ltb-true entriesMax m t in le-leb entriesMax n (omega arith))
 
@@ -101,6 +98,10 @@ module _ (st : Store) (ok : StoreOk st) (p : ℕ) (h : p < partitionsMax) (i : �
   -- how many of the partition's entries stay
   abbrev kept : ℕ
   kept = keptOf i (entriesOf 0 (spansAt p st))
+
+  -- one entry behind those, and k rows behind the partition's rows
+  abbrev grownBy : ℕ → Plan
+  grownBy k = let q = partitionAt p st in placed kept q (rowsMax * q .area + q .rows) (rowsTo i (q .rows + k))
 
   kept-is : keptIn (st .entries) (partitionAt p st) i ≡ kept
   kept-is = keptIn-is (st .entries) (partitionAt p st) i (entries-inside st ok p h)
@@ -126,15 +127,7 @@ module _ (st : Store) (ok : StoreOk st) (p : ℕ) (h : p < partitionsMax) (i : �
         le-ltb entriesMax (length (spansAt p st)) g)
   append-full (w ∷ ws) = let q = partitionAt p st in let k = suc (length ws) in
       rw (appendPlan-kept (st .entries) q i k (tests st ok p h) (λ e. omega arith), kept-is, appendAt-full kept q i k,
-        more-than-64 kept (length (extended i (w ∷ ws) (spansAt p st))) (length-extended (w ∷ ws)))
-
-  -- the batch goes behind the partition's rows
-  pub append-rows : (batch : List ℕ)
-      → over (rowsMax * partitionAt p st .area) (wordsOf (appended i batch (spansAt p st))) (st .rows)
-        ≡ over (rowsMax * partitionAt p st .area + partitionAt p st .rows) batch (st .rows)
-  append-rows batch = let q = partitionAt p st in
-      rw (words-appended i batch (spansAt p st), ok .partition p h .words-are)
-        (over-behind (rowsMax * q .area) (q .rows) batch (st .rows) (rows-inside st ok p h))
+        one-too-many kept (length (extended i (w ∷ ws) (spansAt p st))) (length-extended (w ∷ ws)))
 
   -- one entry goes behind those that stay
   extended-entries : (ws : List ℕ) → kept < entriesMax
@@ -155,7 +148,7 @@ module _ (st : Store) (ok : StoreOk st) (p : ℕ) (h : p < partitionsMax) (i : �
   -- a plan that is not full is the plan of one entry and the batch
   append-placed : (k : ℕ) → (k ≡ 0 → ⊥) → appendPlan (st .entries) (partitionAt p st) i k .full ≡ fullIf false false
       → (k ≤ rowsMax - partitionAt p st .rows) × (kept < entriesMax)
-        × (appendPlan (st .entries) (partitionAt p st) i k ≡ placed kept (partitionAt p st) i k)
+        × (appendPlan (st .entries) (partitionAt p st) i k ≡ grownBy k)
   append-placed k some full = let q = partitionAt p st in
       let e : appendPlan (st .entries) q i k ≡ appendAt kept q i k =
         rw (appendPlan-kept (st .entries) q i k (tests st ok p h) some, kept-is) in
@@ -166,7 +159,7 @@ module _ (st : Store) (ok : StoreOk st) (p : ℕ) (h : p < partitionsMax) (i : �
 
   extended-written : (ws : List ℕ) → length ws ≤ rowsMax - partitionAt p st .rows → kept < entriesMax
       → wordsOf (extended i ws (spansAt p st)) ≡ wordsOf (spansAt p st) ++ ws
-      → Written p (extended i ws (spansAt p st)) (placed kept (partitionAt p st) i (length ws)) ws st
+      → Written p (extended i ws (spansAt p st)) (grownBy (length ws)) ws st
   extended-written ws r n e = let q = partitionAt p st in let k = ok .partition p h in let c = k .row-count in
       let w = in-range st ok p h in let a = w .area in let b = w .rows in let l = ok .rows-length in record {
         entries = extended-entries ws n;

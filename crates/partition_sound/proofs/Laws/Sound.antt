@@ -1,20 +1,20 @@
--- Laws of the soundness tests: partitionOkBy is rules' partitionOk, and one pass over the entries finds it.
--- In order: rules' test, one pass, where the entries stand, a turn of the pass, all partitions and *sound*.
+-- Laws of the soundness tests: one pass over the entries finds partitionOkBy, which is rules' partitionOk.
+-- In order: one pass, where it starts, a turn of it, all partitions and *sound*.
 -- Definitions: specs/Sound.antt.
 -- Assumes nothing.
-use mathlib.Core.Path.{_≡_, refl, sym}
-use mathlib.Core.Bool.{Bool, true, false, not, _&&_, _||_}
+use mathlib.Core.Path.{_≡_, refl, sym, _∙_}
+use mathlib.Core.Bool.{Bool, true, false, not, _&&_, _||_, and-false, and-true, and-assoc}
 use mathlib.Core.List.{List, [], _∷_}
 use Prim.Native.Nat.{ℕ, _+_, _*_, _≤_, _<_}
 use native.Mathlib.Omega.{arith}
-use native.Mathlib.Numerals.{add-one}
-use lib.ListN.{length, take, drop, getD, length-append, drop-of-length-le}
-use lib.Seq.{drop-cons, getD-take, getD-drop, take-nil}
+use lib.ListN.{length, take, drop, getD, length-append, length-drop}
+use lib.Seq.{getD-drop}
 use lib.Dec.{ltb, leb, eqb}
-use borrow.Author.Tests.{ltb-true, ltb-false, leb-true}
+use borrow.Author.Tests.{leb-true, lt-ltb}
 use Rattle.lists.specs.Lists.{allOf, part}
-use Rattle.lists.proofs.Laws.Bools.{split, and-right, and-true, and-false, and-assoc}
-use Rattle.lists.proofs.Laws.Parts.{length-part, take-pad}
+use Rattle.lists.proofs.Laws.Bools.{and-right}
+use Rattle.lists.proofs.Laws.Parts.{take-pad}
+use Rattle.lists.proofs.Laws.Places.{used-next, used-end}
 use Rattle.rules.specs.Limits.{writersMax, areasMax, rowsMax, entriesMax}
 use Rattle.rules.specs.Store.{Store, managerOf}
 use Rattle.rules.specs.WellFormed.{managerOk, areasOk, epochOk, endsOk, alike, apart, partitionOk, lengthsOk}
@@ -26,17 +26,9 @@ use Rattle.rules.specs.declared.Partition.{Partition}
 use Rattle.rules.specs.declared.Partitions.{Partitions}
 use Rattle.rules.specs.declared.RwTxns.{RwTxns}
 use Rattle.partition_sound.specs.Sound.{epochsOf, epochOkBy, entryOkBy, partitionOkBy, follows, beforeFirst}
-use Rattle.partition_sound.specs.Sound.{chained}
-use Rattle.partition_sound.specs.Sound.{epochsWith, extentOf, partitionsOk}
+use Rattle.partition_sound.specs.Sound.{chained, epochsWith, partitionsOk}
 use Rattle.partition_sound.specs.declared.Epochs.{Epochs}
-use Rattle.partition_sound.specs.declared.Extent.{Extent}
-
--- ---- rules' test
-
-pub partitionOk-by : (m : Manager) (entries : List Entry) (q : Partition)
-    → partitionOkBy (m .clock) (epochsOf (m .writers)) entries q ≡ partitionOk m entries q
-unfolding partitionOkBy partitionOk epochOkBy epochOk
-partitionOk-by m entries q = refl
+use Rattle.area.specs.Area.{baseOf}
 
 -- ---- one pass
 
@@ -80,43 +72,18 @@ module _ (c : Clock) (js : List ℕ) (entries : List Entry) (q : Partition) wher
   partitionOkBy-pass t = let es = part (entriesMax * q .area) (q .entries) entries in
       rw (t, chained-is c js (q .rows) beforeFirst es, apart-first es)
 
--- ---- where the entries stand
-
-module _ (entries : List Entry) (q : Partition) (l : length entries ≡ entriesMax * areasMax)
-    (n : q .entries ≤ entriesMax) where
-  pub extent-inside : extentOf q .base + extentOf q .count ≤ length entries
-  unfolding extentOf
-  extent-inside = split (ltb (q .area) areasMax)
-    (λ t. let g = ltb-true (q .area) areasMax t in rw t (omega arith))
-    (λ f. rw f (omega arith))
-
-  pub extent-part : part (entriesMax * q .area) (q .entries) entries
-      ≡ part (extentOf q .base) (extentOf q .count) entries
-  unfolding extentOf
-  extent-part = split (ltb (q .area) areasMax)
-    (λ t. rw t)
-    (λ f. let g = ltb-false (q .area) areasMax f in
-      rw (f, drop-of-length-le entries {i = entriesMax * q .area} (omega arith), take-nil (q .entries)))
-
 -- where the pass starts
-pub pass-starts : (c : Clock) (js : List ℕ) (entries : List Entry) (q : Partition) (x : Extent) (d : Entry)
-    → countsOk q ≡ true → length entries ≡ entriesMax * areasMax → x ≡ extentOf q → d ≡ beforeFirst
-    → (x .base + x .count ≤ length entries)
-      × (partitionOkBy c js entries q ≡ chained c js (q .rows) d (part (x .base) (x .count) entries))
-pass-starts c js entries q x d t l e f =
+pub pass-starts : (c : Clock) (js : List ℕ) (entries : List Entry) (q : Partition) (base : ℕ) (d : Entry)
+    → countsOk q ≡ true → length entries ≡ entriesMax * areasMax → q .area < areasMax
+    → base ≡ baseOf entriesMax (q .area) → d ≡ beforeFirst
+    → (base + q .entries ≤ length entries)
+      × (partitionOkBy c js entries q ≡ chained c js (q .rows) d (part base (q .entries) entries))
+pass-starts c js entries q base d t l a e f =
     let n = leb-true (q .entries) entriesMax (and-right (leb (q .rows) rowsMax) (leb (q .entries) entriesMax) t) in
-    (rw e (extent-inside entries q l n), rw (e, f, ← extent-part entries q l n) (partitionOkBy-pass c js entries q t))
+    let b : base ≡ entriesMax * q .area = e ∙ rw (lt-ltb (q .area) areasMax a) in
+    (omega arith, rw (b, f) (partitionOkBy-pass c js entries q t))
 
 -- ---- a turn of the pass: entry i of the n from base on
-
-module _ {A : Type 0} (xs : List A) (base n : ℕ) (inside : base + n ≤ length xs) where
-  part-next : (i : ℕ) (d : A) → i < n → drop i (part base n xs) ≡ getD xs (base + i) d ∷ drop (i + 1) (part base n xs)
-  part-next i d h = let l = length-part base n xs inside in
-      rw (add-one i, drop-cons (part base n xs) i d (omega arith), getD-take n (drop base xs) i d h,
-        getD-drop base xs i d)
-
-  part-end : (i : ℕ) → n ≤ i → drop i (part base n xs) ≡ []
-  part-end i h = let l = length-part base n xs inside in drop-of-length-le (part base n xs) {i = i} (omega arith)
 
 module _ (c : Clock) (js : List ℕ) (rows : ℕ) (d : Entry) (xs : List Entry) (base n : ℕ)
     (inside : base + n ≤ length xs) (i : ℕ) where
@@ -124,11 +91,12 @@ module _ (c : Clock) (js : List ℕ) (rows : ℕ) (d : Entry) (xs : List Entry) 
       → chained c js rows d (drop i (part base n xs))
         ≡ r && chained c js rows (getD xs (base + i) e) (drop (i + 1) (part base n xs))
   unfolding chained
-  chained-step e r h f = rw (f, part-next xs base n inside i e h)
+  chained-step e r h f = let l = length-drop base xs in
+      rw (f, used-next (drop base xs) n _ refl e i (omega arith), getD-drop base xs i e)
 
   pub chained-end : n ≤ i → chained c js rows d (drop i (part base n xs)) ≡ eqb (d .end) rows
   unfolding chained
-  chained-end h = rw (part-end xs base n inside i h)
+  chained-end h = rw (used-end (drop base xs) n _ refl i (omega arith))
 
 -- ---- all partitions
 

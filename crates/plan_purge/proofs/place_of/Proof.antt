@@ -18,13 +18,17 @@ unfolding placeOf
 returns-3 c = let e = c .before .before in
     rw (lt-ltb _ _ (e .before .if1 .left), lt-ltb _ _ (e .if2 .left), le-ltb _ _ (c .if3 .taken))
 
-add-result : tie.Need-add-result
-add-result c = search needs
-
 returns-4 : tie.Need-returns-4
 unfolding placeOf
 returns-4 c = let f = c .before in let e = f .before .before in
     rw (lt-ltb _ _ (e .before .if1 .left), lt-ltb _ _ (e .if2 .left), lt-ltb _ _ (f .if3 .left))
 
 pub place-of-spec : {M : Type 1} → statement M
-place-of-spec = tie.close (tie.spec returns returns-2 returns-3 add-result returns-4)
+place-of-spec =
+    tie.close
+    (tie.spec
+    returns
+    returns-2
+    returns-3
+    (λ c. search needs)
+    returns-4)

@@ -5,26 +5,21 @@ use borrow.Author.Needs.{needs}
 use Rattle.plan_purge.proofs.purge_at.Statement.{statement}
 use Rattle.plan_purge.proofs.purge_at.Tie as tie
 
-area-of-requires : tie.Need-area-of-requires
-area-of-requires c κs = search needs
-
-skips-requires : tie.Need-skips-requires
-skips-requires c κs = search needs
-
-unwritten-requires : tie.Need-unwritten-requires
-unwritten-requires c κs = search needs
-
 returns : tie.Need-returns
 returns c = let k = c .before .before in let a = k .before in
-    c .unwritten .ensures ∙ rw (← a .area-of .ensures, sym (k .skips .ensures) ∙ c .before .if1 .taken)
-
-moved-requires : tie.Need-moved-requires
-moved-requires c κs = search needs
+    c .unwritten .ensures ∙ rw (← a .read .ensures, sym (k .skips .ensures) ∙ c .before .if1 .taken)
 
 returns-2 : tie.Need-returns-2
 returns-2 c = let k = c .before .before in let a = k .before in
-    c .moved .ensures ∙ rw (← a .area-of .ensures, sym (k .skips .ensures) ∙ c .before .if1 .left)
+    c .moved .ensures ∙ rw (← a .read .ensures, sym (k .skips .ensures) ∙ c .before .if1 .left)
 
 pub purge-at-spec : {M : Type 1} → statement M
 purge-at-spec =
-    tie.close (tie.spec area-of-requires skips-requires unwritten-requires returns moved-requires returns-2)
+    tie.close
+    (tie.spec
+    (λ c κs. search needs)
+    (λ c κs. search needs)
+    (λ c κs. search needs)
+    returns
+    (λ c κs. search needs)
+    returns-2)

@@ -5,21 +5,6 @@ use Rattle.plan_purge.specs.Purge.{purgePlan}
 use Rattle.plan_purge.proofs.purge_core.Statement.{statement}
 use Rattle.plan_purge.proofs.purge_core.Tie as tie
 
-admit-requires : tie.Need-admit-requires
-admit-requires c κs = search needs
-
-enum-known-admitted : tie.Need-enum-known-admitted
-enum-known-admitted c = search needs
-
-unwritten-requires : tie.Need-unwritten-requires
-unwritten-requires c κs = search needs
-
-enum-known-admitted-2 : tie.Need-enum-known-admitted-2
-enum-known-admitted-2 c = search needs
-
-purge-at-requires : tie.Need-purge-at-requires
-purge-at-requires c κs = search needs
-
 returns : tie.Need-returns
 unfolding purgePlan
 returns c = let k = c .before .before in let a = k .before .before in
@@ -33,4 +18,11 @@ returns-2 c = let k = c .before .before in let a = k .before .before in
 pub purge-core-spec : {M : Type 1} → statement M
 purge-core-spec =
     tie.close
-    (tie.spec admit-requires enum-known-admitted unwritten-requires enum-known-admitted-2 purge-at-requires returns returns-2)
+    (tie.spec
+    (λ c κs. search needs)
+    (λ c. search needs)
+    (λ c κs. search needs)
+    (λ c. search needs)
+    (λ c κs. search needs)
+    returns
+    returns-2)

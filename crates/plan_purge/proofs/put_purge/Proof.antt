@@ -1,11 +1,12 @@
--- `plan_purge::put_purge` meets its contract: it has the shape that lent's `Saving.antt` walks, with 64 turns.
+-- `plan_purge::put_purge` meets its contract: it has the shape that shapes' `Saving.antt` walks, a turn for each place.
 -- Assumes nothing.
 use native.Mathlib.Omega.{arith}
 use contract.Running.{givenOf, tables, tablesOf}
 use denote.Triple.Spec.{tripleOf}
 use denote.Triple.Table.{entered, cited}
-use Rattle.lent.proofs.Saves.{PutEntry, Place, Area}
-use Rattle.lent.proofs.Saving.{meets}
+use Rattle.rules.specs.Limits.{entriesMax}
+use Rattle.shapes.proofs.Saves.{PutEntry, Place, Area}
+use Rattle.shapes.proofs.Saving.{meets}
 use Rattle.lent.proofs.put_entry.Symbol as put-entry
 use Rattle.lent.proofs.put_entry.Met as put-entry-thm
 use Rattle.plan_purge.specs.Purge.{placeOf, newOf}
@@ -25,11 +26,11 @@ put-purge-spec 𝓤 H 𝓜 𝓖 𝓡 =
     entered 𝓤 H (tripleOf 𝓤 H (𝓖 .A) f.signature (f.spec 𝓤 H (𝓖 .A) (𝓜 .mem) (𝓡 .run)))
     (tables 𝓤 H 𝓜 𝓡 code.env .C) (tables 𝓤 H 𝓜 𝓡 code.env .Λ) #plan-purge·put-purge code.function
     (code.unfolded 𝓤 H 𝓜 𝓡)
-    (meets 64 purge (omega arith) tt place-of.name entries-of.name placeOf newOf
+    (meets entriesMax purge (omega arith) tt place-of.name entries-of.name placeOf newOf
     𝓤 H (𝓖 .A) (givenOf 𝓤 H 𝓜 𝓖) (𝓜 .mem) (𝓡 .run) (tablesOf 𝓤 H 𝓜 (tables 𝓤 H 𝓜 𝓡 code.env))
     (cited 𝓤 H (PutEntry 𝓤 H (𝓖 .A) (𝓜 .mem) (𝓡 .run)) 𝓜 𝓡 code.env put-entry.name put-entry.routine
       code.calls-lent·put-entry (put-entry-thm.met 𝓤 H 𝓜 𝓖 𝓡))
-    (cited 𝓤 H (Place 64 purge placeOf newOf 𝓤 H (𝓖 .A)) 𝓜 𝓡 code.env place-of.name place-of.routine
+    (cited 𝓤 H (Place entriesMax purge placeOf newOf 𝓤 H (𝓖 .A)) 𝓜 𝓡 code.env place-of.name place-of.routine
       code.calls-plan-purge·place-of (place-of-thm.met 𝓤 H 𝓜 𝓖 𝓡))
-    (cited 𝓤 H (Area 64 purge placeOf newOf 𝓤 H (𝓖 .A)) 𝓜 𝓡 code.env entries-of.name entries-of.routine
+    (cited 𝓤 H (Area entriesMax purge placeOf newOf 𝓤 H (𝓖 .A)) 𝓜 𝓡 code.env entries-of.name entries-of.routine
       code.calls-plan-purge·entries-of (entries-of-thm.met 𝓤 H 𝓜 𝓖 𝓡)))

@@ -1,13 +1,15 @@
--- `plan_rollback::put_roll_back` meets its contract: it has the shape that lent's `Saving.antt` walks.
+-- `plan_rollback::put_roll_back` meets its contract: it has the shape that shapes' `Saving.antt` walks.
 -- Assumes nothing.
+use Prim.Native.Nat.{_*_}
 use native.Mathlib.Omega.{arith}
 use contract.Running.{givenOf, tables, tablesOf}
 use denote.Triple.Spec.{tripleOf}
 use denote.Triple.Table.{entered, cited}
 use Rattle.lent.proofs.put_entry.Symbol as put-entry
 use Rattle.lent.proofs.put_entry.Met as put-entry-thm
-use Rattle.lent.proofs.Saves.{PutEntry, Place, Area}
-use Rattle.lent.proofs.Saving.{meets}
+use Rattle.rules.specs.Limits.{areasMax, entriesMax}
+use Rattle.shapes.proofs.Saves.{PutEntry, Place, Area}
+use Rattle.shapes.proofs.Saving.{meets}
 use Rattle.plan_rollback.specs.RollBack.{placeOf, entriesAfter}
 use Rattle.plan_rollback.proofs.Types.{rollBack}
 use Rattle.plan_rollback.proofs.place_of.Symbol as place
@@ -25,11 +27,11 @@ put-roll-back-spec 𝓤 H 𝓜 𝓖 𝓡 =
     entered 𝓤 H (tripleOf 𝓤 H (𝓖 .A) f.signature (f.spec 𝓤 H (𝓖 .A) (𝓜 .mem) (𝓡 .run)))
     (tables 𝓤 H 𝓜 𝓡 code.env .C) (tables 𝓤 H 𝓜 𝓡 code.env .Λ) #plan-rollback·put-roll-back code.function
     (code.unfolded 𝓤 H 𝓜 𝓡)
-    (meets 576 rollBack (omega arith) tt place.name area.name placeOf entriesAfter
+    (meets (entriesMax * areasMax) rollBack (omega arith) tt place.name area.name placeOf entriesAfter
     𝓤 H (𝓖 .A) (givenOf 𝓤 H 𝓜 𝓖) (𝓜 .mem) (𝓡 .run) (tablesOf 𝓤 H 𝓜 (tables 𝓤 H 𝓜 𝓡 code.env))
     (cited 𝓤 H (PutEntry 𝓤 H (𝓖 .A) (𝓜 .mem) (𝓡 .run)) 𝓜 𝓡 code.env put-entry.name put-entry.routine
       code.calls-lent·put-entry (put-entry-thm.met 𝓤 H 𝓜 𝓖 𝓡))
-    (cited 𝓤 H (Place 576 rollBack placeOf entriesAfter 𝓤 H (𝓖 .A)) 𝓜 𝓡 code.env place.name place.routine
-      code.calls-plan-rollback·place-of (place-thm.met 𝓤 H 𝓜 𝓖 𝓡))
-    (cited 𝓤 H (Area 576 rollBack placeOf entriesAfter 𝓤 H (𝓖 .A)) 𝓜 𝓡 code.env area.name area.routine
-      code.calls-plan-rollback·entries-after (area-thm.met 𝓤 H 𝓜 𝓖 𝓡)))
+    (cited 𝓤 H (Place (entriesMax * areasMax) rollBack placeOf entriesAfter 𝓤 H (𝓖 .A)) 𝓜 𝓡 code.env place.name
+      place.routine code.calls-plan-rollback·place-of (place-thm.met 𝓤 H 𝓜 𝓖 𝓡))
+    (cited 𝓤 H (Area (entriesMax * areasMax) rollBack placeOf entriesAfter 𝓤 H (𝓖 .A)) 𝓜 𝓡 code.env area.name
+      area.routine code.calls-plan-rollback·entries-after (area-thm.met 𝓤 H 𝓜 𝓖 𝓡)))

@@ -20,30 +20,18 @@ accepted-of : (b : Bool) → (cond {A = ℕ} b 1 0 ≡ 0 → ⊥) → b ≡ true
 accepted-of true e = refl
 accepted-of false e = absurd (e refl)
 
-rest-ok-requires : tie.Need-rest-ok-requires
-rest-ok-requires c κs = search needs
-
-roll-back-requires : tie.Need-roll-back-requires
-roll-back-requires c κs = search needs
-
-todo-of-requires : tie.Need-todo-of-requires
-todo-of-requires c κs = search needs
-
 returns : tie.Need-returns
 unfolding rollBackOf
 returns c =
-    let r = c .before .before .roll-back in let d = c .before .todo-of in
+    let r = c .before .before .close-txn in let d = c .before .todo-of in
     let e = rw (c .before .before .before .before .rest-ok .ensures) at (r .ensures) in
     rw (e, sym (ap (λ (x : Managed). accepted (x .answer)) e) ∙ refused-of _ (sym (d .ensures) ∙ c .if1 .taken))
-
-roll-requires : tie.Need-roll-requires
-roll-requires c κs = search needs
 
 returns-2 : tie.Need-returns-2
 unfolding rollBackOf
 returns-2 c =
     let k = c .before .before in let t = k .before .before in
-    let r = t .before .before .roll-back in let d = t .before .todo-of in
+    let r = t .before .before .close-txn in let d = t .before .todo-of in
     let e = rw (t .before .before .before .before .rest-ok .ensures) at (r .ensures) in
     rw (k .roll .ensures, e, sym (ap (λ (x : Managed). accepted (x .answer)) e)
       ∙ accepted-of _ (λ z. t .if1 .left (d .ensures ∙ z)))
@@ -51,4 +39,10 @@ returns-2 c =
 pub roll-back-core-spec : {M : Type 1} → statement M
 roll-back-core-spec =
     tie.close
-    (tie.spec rest-ok-requires roll-back-requires todo-of-requires returns roll-requires returns-2)
+    (tie.spec
+    (λ c κs. search needs)
+    (λ c κs. search needs)
+    (λ c κs. search needs)
+    returns
+    (λ c κs. search needs)
+    returns-2)

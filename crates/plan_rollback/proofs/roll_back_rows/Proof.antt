@@ -9,16 +9,16 @@ use Rattle.plan_rollback.proofs.roll_back_rows.Tie as tie
 returns : tie.Need-returns
 returns c = rw (ne-eqb _ _ (c .if1 .taken))
 
-roll-rows-requires : tie.Need-roll-rows-requires
-roll-rows-requires c κs = search needs
-
-same-length : tie.Need-same-length
-same-length c = search needs
-
 returns-2 : tie.Need-returns-2
 returns-2 c =
     let k = c .before .before in let s = k .before .before .before .before .before .before .before in
     rw (k .roll-rows .ensures, eq-eqb (s .args .w .todo) 1 (omega arith))
 
 pub roll-back-rows-spec : {M : Type 1} → statement M
-roll-back-rows-spec = tie.close (tie.spec returns roll-rows-requires same-length returns-2)
+roll-back-rows-spec =
+    tie.close
+    (tie.spec
+    returns
+    (λ c κs. search needs)
+    (λ c. search needs)
+    returns-2)

@@ -5,30 +5,6 @@ use Rattle.plan_scan.specs.Scan.{roLook}
 use Rattle.plan_scan.proofs.ro_core.Statement.{statement}
 use Rattle.plan_scan.proofs.ro_core.Tie as tie
 
-has-reader-requires : tie.Need-has-reader-requires
-has-reader-requires c κs = search needs
-
-admit-requires : tie.Need-admit-requires
-admit-requires c κs = search needs
-
-enum-known-admitted : tie.Need-enum-known-admitted
-enum-known-admitted c = search needs
-
-refused-requires : tie.Need-refused-requires
-refused-requires c κs = search needs
-
-enum-known-admitted-2 : tie.Need-enum-known-admitted-2
-enum-known-admitted-2 c = search needs
-
-epoch-at-requires : tie.Need-epoch-at-requires
-epoch-at-requires c κs = search needs
-
-page-requires : tie.Need-page-requires
-page-requires c κs = search needs
-
-scan-partition-requires : tie.Need-scan-partition-requires
-scan-partition-requires c κs = search needs
-
 returns : tie.Need-returns
 unfolding roLook
 returns c = let k = c .before .before in let a = k .before .before in
@@ -43,5 +19,14 @@ returns-2 c = let v = c .before in let e = v .before in let k = e .before .befor
 pub ro-core-spec : {M : Type 1} → statement M
 ro-core-spec =
     tie.close
-    (tie.spec has-reader-requires admit-requires enum-known-admitted refused-requires enum-known-admitted-2 epoch-at-requires
-      page-requires scan-partition-requires returns returns-2)
+    (tie.spec
+    (λ c κs. search needs)
+    (λ c κs. search needs)
+    (λ c. search needs)
+    (λ c κs. search needs)
+    (λ c. search needs)
+    (λ c κs. search needs)
+    (λ c κs. search needs)
+    (λ c κs. search needs)
+    returns
+    returns-2)

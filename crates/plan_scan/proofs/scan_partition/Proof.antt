@@ -11,38 +11,29 @@ use Rattle.plan_scan.specs.Scan.{noBits, lookAt}
 use Rattle.plan_scan.proofs.scan_partition.Statement.{statement}
 use Rattle.plan_scan.proofs.scan_partition.Tie as tie
 
-bytes-for-requires : tie.Need-bytes-for-requires
-bytes-for-requires c κs = search needs
-
-refused-requires : tie.Need-refused-requires
-refused-requires c κs = search needs
-
 returns : tie.Need-returns
 unfolding lookAt
 returns c = c .refused .ensures
     ∙ rw (lt-ltb _ _ (rw (c .before .before .bytes-for .ensures) at (c .before .if1 .taken)))
-
-area-of-requires : tie.Need-area-of-requires
-area-of-requires c κs = search needs
-
-slice-aggregate-scan : tie.Need-slice-aggregate-scan
-slice-aggregate-scan c = search needs
-
-scan-requires : tie.Need-scan-requires
-scan-requires c κs = search needs
 
 returns-2 : tie.Need-returns-2
 unfolding lookAt
 returns-2 c =
     let e = c .before .before .before in let f = e .before in let n = f .before .bytes-for in
     let a = f .before .before .args in let r = c .before .scan .ensures in
-    let ones = ap (λ x. x .ones) (r .0) ∙ ap (λ x. scanned (a .v) x (a .q .rows) noBits .ones) (e .area-of .ensures) in
-    let bits = r .1 ∙ ap (λ x. bitmapScanned (a .v) x (a .q .rows) noBits) (e .area-of .ensures) in
+    let ones = ap (λ x. x .ones) (r .0) ∙ ap (λ x. scanned (a .v) x (a .q .rows) noBits .ones) (e .read .ensures) in
+    let bits = r .1 ∙ ap (λ x. bitmapScanned (a .v) x (a .q .rows) noBits) (e .read .ensures) in
     rw (le-ltb (a .k) (bytesFor (a .q .rows)) (rw (n .ensures) at (f .if1 .left)))
       (λ j. record { answer = Scanned (a .q .rows) (ones j); bits = bits j; count = (n .ensures) j })
 
 pub scan-partition-spec : {M : Type 1} → statement M
 scan-partition-spec =
     tie.close
-    (tie.spec bytes-for-requires refused-requires returns area-of-requires slice-aggregate-scan scan-requires
-      returns-2)
+    (tie.spec
+    (λ c κs. search needs)
+    (λ c κs. search needs)
+    returns
+    (λ c κs. search needs)
+    (λ c. search needs)
+    (λ c κs. search needs)
+    returns-2)

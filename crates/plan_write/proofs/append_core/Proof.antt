@@ -5,24 +5,6 @@ use Rattle.plan_write.specs.Write.{appendWrite}
 use Rattle.plan_write.proofs.append_core.Statement.{statement}
 use Rattle.plan_write.proofs.append_core.Tie as tie
 
-is-open-requires : tie.Need-is-open-requires
-is-open-requires c κs = search needs
-
-admit-requires : tie.Need-admit-requires
-admit-requires c κs = search needs
-
-enum-known-admitted : tie.Need-enum-known-admitted
-enum-known-admitted c = search needs
-
-refused-requires : tie.Need-refused-requires
-refused-requires c κs = search needs
-
-enum-known-admitted-2 : tie.Need-enum-known-admitted-2
-enum-known-admitted-2 c = search needs
-
-append-at-requires : tie.Need-append-at-requires
-append-at-requires c κs = search needs
-
 returns : tie.Need-returns
 unfolding appendWrite
 returns c = let k = c .before .before in let a = k .before .before in
@@ -36,5 +18,5 @@ returns-2 c = let k = c .before .before in let a = k .before .before in
 pub append-core-spec : {M : Type 1} → statement M
 append-core-spec =
     tie.close
-    (tie.spec is-open-requires admit-requires enum-known-admitted refused-requires enum-known-admitted-2
-      append-at-requires returns returns-2)
+    (tie.spec (λ c κs. search needs) (λ c κs. search needs) (λ c. search needs) (λ c κs. search needs)
+      (λ c. search needs) (λ c κs. search needs) returns returns-2)

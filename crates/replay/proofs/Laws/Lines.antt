@@ -4,12 +4,12 @@
 -- Assumes nothing.
 use mathlib.Core.Path.{_≡_, refl, sym, _∙_, ap}
 use mathlib.Core.Bool.{cond}
-use mathlib.Core.List.{List, [], _∷_, _++_, append-nil}
+use mathlib.Core.List.{List, [], _∷_, _++_}
 use Prim.Native.Nat.{ℕ, suc, _+_, _-_, _≤_, _<_}
 use native.Mathlib.Omega.{arith}
 use lib.Dec.{leb, eqb}
 use lib.ListN.{length, take, drop, length-append, length-drop, drop-of-length-le}
-use lib.Seq.{take-all, drop-drop, length-take-le}
+use lib.Seq.{drop-drop, length-take-le}
 use borrow.Author.Tests.{le-leb, lt-leb, eqb-true, eqb-false, leb-true, leb-false}
 use Rattle.lists.specs.Lists.{over}
 use Rattle.lists.proofs.Laws.Bools.{split}
@@ -17,11 +17,12 @@ use Rattle.lists.proofs.Laws.Parts.{length-over}
 use Rattle.rules.specs.Store.{Store}
 use Rattle.session_text.specs.Lines.{beforeEnd, lineEnd}
 use Rattle.session_text.proofs.Laws.Lines.{end-past, end-within, end-none, end-here, end-later}
-use Rattle.session_text.proofs.Laws.Over.{over-nil, over-append}
+use Rattle.lists.proofs.Laws.Over.{over-nil, over-append, over-tail}
 use Rattle.replay.specs.Replay.{afterLine, answerTo, afterLines, answersTo}
 use Rattle.replay.specs.Rooms.{numbersMax, answerMax, heldAfter}
 use Rattle.replay.specs.Lines.{onLine, linesIn, bytesOf, answered, replayed, heldLines}
 use Rattle.replay.proofs.Laws.Rooms.{answer-few}
+use Rattle.replay.proofs.Laws.Line.{Said}
 
 -- ---- the first line: the bytes before the first line end
 
@@ -124,15 +125,6 @@ module _ (numbers out input : List ℕ) (st : Store) where
   written-within = let f = answered-fits room (linesIn input) st in split (leb numbersMax (length numbers))
       (λ t. rw t (rw t at f)) (λ n. rw n (let g = rw n at f in omega arith))
 
--- what is written at the front of the part from index w on is written from w on
-over-tail : (w : ℕ) (xs out : List ℕ) → w ≤ length out
-    → take w out ++ (over 0 xs (take (length out - w) (drop w out)) ++ drop (length out - w) (drop w out))
-      ≡ over w xs out
-over-tail w xs out h = let t = drop w out in let n = length-drop w out in
-    let z : 0 + length xs ≡ length xs = omega arith in
-    rw (take-all (length out - w) t (omega arith), drop-of-length-le t {i = length out - w} (omega arith),
-        append-nil (over 0 xs t), z, drop-drop (length xs) w out)
-
 -- ---- what is left to answer from byte i on, at index w of the output
 
 module _ (input start first : List ℕ) (before : Store) where
@@ -212,19 +204,14 @@ module _ (input start first : List ℕ) (before : Store) where
           (r .0, omega (arith, r .1, size, at .0), omega (arith, r .2, length-append answer rs),
            r .3 ∙ over-append w answer rs out (omega (arith, later-fits, fits, length-over w answer out fits)), r .4)
 
-      -- what answering it left
-      module _ (o p : List ℕ) (after : Store) (size : ℕ) (is-after : after ≡ afterLine line st)
-          (is-size : size ≡ length answer)
-          (is-out : o ≡ over 0 answer (take (length out - w) (drop w out)))
-            (is-numbers : p ≡ heldAfter line st numbers) where
-        abbrev whole : List ℕ
+      -- what answering it in the part of the output from w on left
+      module _ (o p : List ℕ) (after : Store) (size : ℕ) where
+        abbrev pub whole : List ℕ
         whole = take w out ++ (o ++ drop (length out - w) (drop w out))
 
-        is-whole : whole ≡ over w answer out
-        is-whole = rw is-out (over-tail w answer out (omega (arith, fits)))
-
-        pub rest-made : Rest p whole after (e + 1) (w + size)
-        rest-made = rw (is-numbers, is-whole, is-after, is-size) rest-next
-
-        pub room-made : (w + size ≤ length whole) × (length whole ≡ length out)
-        room-made = let n = ap length is-whole ∙ length-over w answer out fits in (omega (arith, n, fits, is-size), n)
+        pub rest-made : Said line numbers (take (length out - w) (drop w out)) st after size o p
+            → Rest p whole after (e + 1) (w + size) × ((w + size ≤ length whole) × (length whole ≡ length out))
+        rest-made s = let is-size = s .1 .0 in
+            let is-whole : whole ≡ over w answer out = rw (s .1 .1 .0) (over-tail w answer out (omega (arith, fits))) in
+            let n = ap length is-whole ∙ length-over w answer out fits in
+            (rw (s .1 .1 .1, is-whole, s .0, is-size) rest-next, (omega (arith, n, fits, is-size), n))

@@ -9,10 +9,9 @@ use native.Mathlib.Numerals.{add-one}
 use lib.ListN.{length, take, drop, getD, set, length-take, length-drop, drop-of-length-le}
 use lib.Seq.{take-nil, take-suc, length-take-le, getD-append-add, getD-drop}
 use Rattle.lists.specs.Lists.{over}
-use Rattle.lists.proofs.Laws.Parts.{length-over}
-use Rattle.session_text.proofs.Laws.Over.{over-one, over-append}
+use Rattle.lists.proofs.Laws.Parts.{part-least, length-over}
+use Rattle.lists.proofs.Laws.Over.{over-one, over-append}
 use Rattle.replay.specs.Lines.{keptMax, kept}
-use Rattle.replay.proofs.Laws.Parts.{part-least}
 
 module _ (buffer : List ℕ) (from to : ℕ) where
   none : kept buffer from to ≡ [] → (0 ≡ length (kept buffer from to))

@@ -1,5 +1,5 @@
 -- So much room is always enough. Definitions: specs/Rooms.antt, session_text's Grammar and Print.
--- In order: the numbers of a line and its rows; the rows shown; the bytes of an answer; the tests.
+-- In order: the numbers of a line and its rows; the rows shown; the bytes of an answer.
 -- Assumes nothing.
 use mathlib.Core.Path.{_≡_, refl, sym, _∙_}
 use mathlib.Core.Bool.{Bool, true, false, cond}
@@ -9,22 +9,25 @@ use native.Mathlib.Omega.{arith}
 use lib.Dec.{leb, ltb, eqb}
 use lib.ListN.{length, take, drop, length-append, length-take}
 use lib.Seq.{take-append-seam}
-use borrow.Author.Tests.{ltb-true, ltb-false, leb-true, le-leb, lt-leb, eqb-true, eqb-false}
+use borrow.Author.Tests.{ltb-true, ltb-false, le-leb, eqb-true, eqb-false}
 use Rattle.lists.specs.Lists.{over, gather, part}
-use Rattle.lists.proofs.Laws.Bools.{split, and-left, and-right, and-both}
-use Rattle.rules.specs.Answers.{replyOf, accepted}
-use Rattle.rules.specs.Claim.{bitAt, wordsAtOnes, scanned}
+use Rattle.lists.proofs.Laws.Bools.{split, and-left, and-right}
+use Rattle.lists.proofs.Laws.Tests.{no-proof}
+use Rattle.rules.specs.Answers.{replyOf, firstValue}
+use Rattle.rules.specs.Claim.{bitAt, wordsAtOnes}
 use Rattle.rules.specs.Limits.{rowsMax}
 use Rattle.rules.specs.Step.{scan, step}
 use Rattle.rules.specs.Store.{Store, partitionAt}
 use Rattle.rules.specs.declared.Answer.{Answer}
 use Rattle.rules.specs.declared.Command.{Command}
-use Rattle.rules.specs.declared.Command.the-variants.{Create, Begin, Append, Clear, Commit, RollBack}
-use Rattle.rules.specs.declared.Command.the-variants.{BeginRo, EndRo, Scan, AdvanceLse, Purge}
+use Rattle.rules.specs.declared.Command.the-variants.{Create, Scan}
+use Rattle.rules.proofs.Laws.Step.{scan-or}
+use Rattle.rules.proofs.Laws.Answers.{values-few}
 use Rattle.session_text.specs.Grammar.{areNumbers, numbersOf, numbersIn, parsed, parsedShort, lineMax, isDigit}
 use Rattle.session_text.specs.Grammar.{withOne, withTwo, withMore, withNumbers, scanBy}
 use Rattle.session_text.specs.Numbers.{grownBy}
-use Rattle.session_text.specs.Print.{spaced, letterOf, valuesOf, printed}
+use Rattle.session_text.specs.Grammar.{letterOf}
+use Rattle.session_text.specs.Print.{spaced, lineOf, printed}
 use Rattle.session_text.specs.declared.Parsed.{Parsed}
 use Rattle.session_text.specs.declared.Parsed.the-variants.{Call as Is, Bad}
 use Rattle.session_text.proofs.Laws.Grammar.{okFrom, laterIn, ok-start, ok-nil, ok-blank, ok-digit, ok-other, ok-wide}
@@ -32,15 +35,10 @@ use Rattle.session_text.proofs.Laws.Grammar.{later-nil, later-blank, later-othe
 use Rattle.session_text.proofs.Laws.Numbers.{length-numbers}
 use Rattle.session_text.proofs.Laws.Lines.{length-line}
 use Rattle.session_text.proofs.Laws.Print.{decimal-few}
-use Rattle.replay.specs.Replay.{bits, shownBy, answerIs, answerTo}
-use Rattle.replay.specs.Rooms.{numbersMax, answerMax, roomy, answerIn}
-use Rattle.replay.proofs.Laws.Replay.{scan-or}
+use Rattle.replay.specs.Replay.{bits, rowsShown, answerIs, answerTo}
+use Rattle.replay.specs.Rooms.{numbersMax, answerMax}
 
 -- ---- the numbers of a line: each takes a digit at least, and a blank between two
-
-never : {P : Type 0} (b : Bool) → b ≡ true → b ≡ false → P
-never true t f = let z : _≡_ {A = ℕ} 0 1 = cc in absurd (omega arith)
-never false t f = let z : _≡_ {A = ℕ} 0 1 = cc in absurd (omega arith)
 
 few : (some : Bool) (v : ℕ) (bs : List ℕ) → v < 2 ^ 64 → okFrom some v bs ≡ true
     → 2 * laterIn bs + cond some 0 1 ≤ length bs
@@ -53,9 +51,8 @@ few some v (b ∷ bs) l h = split (eqb b 32)
       (λ d. let g = sym (ok-digit some v b bs d) ∙ h in split (ltb (grownBy v b) (2 ^ 64))
         (λ s. let ih = few true (grownBy v b) bs (ltb-true (grownBy v b) (2 ^ 64) s) g in
           rw (later-other b bs n) (omega (arith, small some)))
-        (λ w. never (okFrom true (grownBy v b) bs) g (ok-wide true (grownBy v b) bs
-          (ltb-false (grownBy v b) (2 ^ 64) w))))
-      (λ o. never (okFrom some v (b ∷ bs)) h (ok-other some v b bs n o)))
+        (λ w. no-proof (sym (ok-wide true (grownBy v b) bs (ltb-false (grownBy v b) (2 ^ 64) w)) ∙ g)))
+      (λ o. no-proof (sym (ok-other some v b bs n o) ∙ h)))
   where
     small : (some : Bool) → cond some 0 1 ≤ 1
     small true = omega arith
@@ -75,7 +72,7 @@ fit-cond m false p q f g = g
 
 fit-one : (letter a : ℕ) → Fit 1 (withOne letter a)
 unfolding withOne
-fit-one letter a = let f : Fit 1 (Is Begin 0) = (refl, omega arith) in
+fit-one letter a = let f : Fit 1 (Is (Create 0) 0) = (refl, omega arith) in
     fit-cond 1 (eqb letter 67) _ _ f (fit-cond 1 (eqb letter 88) _ _ f (fit-cond 1 (eqb letter 82) _ _ f
     (fit-cond 1 (eqb letter 69) _ _ f (fit-cond 1 (eqb letter 76) _ _ f (fit-cond 1 (eqb letter 80) _ _ f tt)))))
 
@@ -83,7 +80,7 @@ fit-numbers : (letter : ℕ) (ns : List ℕ) → length ns ≤ numbersMax → Fi
 unfolding withNumbers withTwo withMore
 fit-numbers letter [] h = tt
 fit-numbers letter (a ∷ []) h = fit-one letter a
-fit-numbers letter (a ∷ b ∷ []) h = let f : Fit 2 (Is Begin 0) = (refl, omega arith) in
+fit-numbers letter (a ∷ b ∷ []) h = let f : Fit 2 (Is (Create 0) 0) = (refl, omega arith) in
     fit-cond 2 (eqb letter 65) _ _ f (fit-cond 2 (eqb letter 68) _ _ f tt)
 fit-numbers letter (a ∷ b ∷ r ∷ rs) h = fit-cond (length (a ∷ b ∷ r ∷ rs)) (eqb letter 65) _ _ (omega arith, h) tt
 
@@ -91,7 +88,7 @@ fit-scan : (who : ℕ) (ns : List ℕ) → Fit (length ns) (scanBy who ns)
 unfolding scanBy
 fit-scan who [] = tt
 fit-scan who (a ∷ []) = tt
-fit-scan who (a ∷ b ∷ []) = let f : Fit 2 (Is Begin 0) = (refl, omega arith) in
+fit-scan who (a ∷ b ∷ []) = let f : Fit 2 (Is (Create 0) 0) = (refl, omega arith) in
     fit-cond 2 (eqb who 108) _ _ f (fit-cond 2 (eqb who 112) _ _ f tt)
 fit-scan who (a ∷ b ∷ c ∷ rs) = tt
 
@@ -136,11 +133,11 @@ pub words-few : (bytes : List ℕ) (n i : ℕ) (rows : List ℕ)
 words-few bytes n i rows = let l = part i rowsMax rows in
     omega (arith, ones-few bytes 0 (take n l), length-take n l, length-take rowsMax (drop i rows))
 
-pub shown-few : (c : Command) (st : Store) → length (shownBy c st) ≤ rowsMax
-shown-few c st = scan-or (λ c. length (shownBy c st) ≤ rowsMax)
+pub shown-few : (c : Command) (st : Store) → length (rowsShown c st) ≤ rowsMax
+shown-few c st = scan-or (λ c. length (rowsShown c st) ≤ rowsMax)
     (λ r p. let out = step (scan r p bits) st in
-      words-few (out .bitmap) (replyOf (out .answer) .value) (rowsMax * partitionAt p st .area) (st .rows))
-    (λ c o. rw (o (λ r p. scanned r p bits st) []) (omega arith)) c
+      words-few (out .bitmap) (firstValue (replyOf (out .answer))) (rowsMax * partitionAt p st .area) (st .rows))
+    (λ c o. rw (o _ _ _) (omega arith)) c
 
 -- ---- the bytes of an answer
 
@@ -149,28 +146,16 @@ spaced-few [] = omega arith
 spaced-few (v ∷ vs) = let ih = spaced-few vs in
     rw (length-append (spaced v) (gather spaced vs)) (omega (arith, decimal-few v))
 
-values-few : (c : Command) (v : ℕ) (shown : List ℕ) → length (valuesOf c v shown) ≤ suc (length shown)
-unfolding valuesOf
-values-few (Create s) v shown = omega arith
-values-few Begin v shown = omega arith
-values-few (Append i p) v shown = omega arith
-values-few (Clear i p) v shown = omega arith
-values-few (Commit i) v shown = omega arith
-values-few (RollBack i) v shown = omega arith
-values-few (BeginRo e) v shown = omega arith
-values-few (EndRo t) v shown = omega arith
-values-few (Scan r p) v shown = omega arith
-values-few (AdvanceLse t) v shown = omega arith
-values-few (Purge p) v shown = omega arith
-
 pub printed-few : (c : Command) (a : Answer) (shown : List ℕ) → length shown ≤ rowsMax
     → length (printed c a shown) ≤ answerMax
 unfolding printed
-printed-few c a shown h = let n = replyOf a .number in let vs = valuesOf c (replyOf a .value) shown in
-    split (accepted a)
-    (λ t. rw t (omega (arith, length-line (letterOf c) n vs, decimal-few n, spaced-few vs,
-      values-few c (replyOf a .value) shown)))
-    (λ f. rw f (omega (arith, length-line (letterOf c) n [], decimal-few n)))
+printed-few c a shown h = scan-or (λ c. length (printed c a shown) ≤ answerMax)
+    (λ r p. fits (letterOf (Scan r p)) shown h)
+    (λ c o. rw (o _ _ _) (fits (letterOf c) (replyOf a .values) (omega (arith, values-few a)))) c
+  where
+    fits : (letter : ℕ) (vs : List ℕ) → length vs ≤ rowsMax → length (lineOf letter (replyOf a .number) vs) ≤ answerMax
+    fits letter vs g = let n = replyOf a .number in
+        omega (arith, length-line letter n vs, decimal-few n, spaced-few vs)
 
 -- the answer to a line always fits
 pub answer-few : (line : List ℕ) (st : Store) → length (answerTo line st) ≤ answerMax
@@ -178,24 +163,5 @@ unfolding answerTo
 answer-few line st = by (parsed line)
   where
     by : (p : Parsed) → length (answerIs line p st) ≤ answerMax
-    by (Is c n) = printed-few c _ (shownBy c st) (shown-few c st)
+    by (Is c n) = printed-few c _ (rowsShown c st) (shown-few c st)
     by Bad = omega arith
-
--- ---- the tests
-
-module _ (numbers out : List ℕ) where
-  pub roomy-both : numbersMax ≤ length numbers → answerMax ≤ length out → roomy numbers out ≡ true
-  roomy-both h g = and-both (leb numbersMax (length numbers)) (leb answerMax (length out))
-      (le-leb numbersMax (length numbers) h) (le-leb answerMax (length out) g)
-
-  pub roomy-first : length numbers < numbersMax → roomy numbers out ≡ false
-  roomy-first h = rw (lt-leb numbersMax (length numbers) h)
-
-  pub roomy-second : numbersMax ≤ length numbers → length out < answerMax → roomy numbers out ≡ false
-  roomy-second h g = rw (le-leb numbersMax (length numbers) h, lt-leb answerMax (length out) g)
-
-  pub answer-within : (line : List ℕ) (st : Store) → length (answerIn numbers out line st) ≤ length out
-  answer-within line st = split (roomy numbers out)
-      (λ t. rw t (omega (arith, answer-few line st, leb-true answerMax (length out)
-        (and-right (leb numbersMax (length numbers)) (leb answerMax (length out)) t))))
-      (λ f. rw f (omega arith))

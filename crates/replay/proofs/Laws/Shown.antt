@@ -1,6 +1,6 @@
 -- Laws of the rows at the ones of a bitmap. Definitions: specs/Shown.antt, and rules' bitAt and wordsAtOnes.
--- In order: a bit past the end; what is left to write from a row on; an area past the end; calls that are no scan;
--- the front of the buffer.
+-- In order: a bit past the end; what is left to write from a row on; an area past the end; the front of the
+-- buffer; the line that answers a call.
 -- Assumes nothing.
 use mathlib.Core.Path.{_≡_, refl, sym, _∙_, ap}
 use mathlib.Core.Bool.{true, false}
@@ -13,24 +13,26 @@ use lib.ListN.{length, take, drop, getD, set, length-take, length-set, drop-of-l
 use lib.ListN.{List·getD-eq-default}
 use lib.Seq.{drop-cons, take-nil, take-append-seam}
 use Rattle.lists.specs.Lists.{over}
-use Rattle.lists.proofs.Laws.Parts.{length-over}
+use Rattle.lists.proofs.Laws.Parts.{take-pad, getD-pad, length-over}
+use Rattle.rules.specs.Answers.{replyOf, valuesMax}
 use Rattle.rules.specs.Claim.{bitAt, wordsAtOnes}
 use Rattle.rules.specs.Limits.{rowsMax}
-use Rattle.session_text.proofs.Laws.Over.{over-nil, over-cons}
+use Rattle.lists.proofs.Laws.Over.{over-nil, over-cons}
 use Rattle.rules.specs.declared.Answer.{Answer}
-use Rattle.rules.specs.declared.Answer.the-variants.{Created, Begun, Appended, Cleared, Closed, BegunRo}
-use Rattle.rules.specs.declared.Answer.the-variants.{EndedRo, Scanned, AdvancedLse, Rewritten, Skipped}
-use Rattle.rules.specs.declared.Answer.the-variants.{Refused}
 use Rattle.rules.specs.declared.Command.{Command}
-use Rattle.rules.specs.declared.Command.the-variants.{Create, Begin, Append, Clear, Commit, RollBack}
-use Rattle.rules.specs.declared.Command.the-variants.{BeginRo, EndRo, Scan, AdvanceLse, Purge}
+use Rattle.rules.specs.declared.Command.the-variants.{Scan}
 use Rattle.rules.specs.declared.Partitions.{Partitions}
 use Rattle.rules.specs.declared.Reader.{Reader}
-use Rattle.rules.proofs.Answer as answer-type
-use Rattle.rules.proofs.Command as command-type
+use Rattle.rules.proofs.Command.{the-type}
+use Rattle.rules.proofs.Laws.Step.{scan-or}
+use Rattle.reply.specs.Reply.{wordsOf}
+use Rattle.reply.specs.declared.ReplyWords.{ReplyWords}
+use Rattle.session_text.specs.Lines.{sizeIn, writtenIn}
+use Rattle.session_text.specs.Grammar.{letterOf}
+use Rattle.session_text.specs.Print.{lineOf, printed}
 use types.Run.{OneOf, miss}
 use denote.Enum.Declared.{tagOf}
-use Rattle.replay.specs.Shown.{shownWords, fitting, rowsIn, areaOf, shownIn}
+use Rattle.replay.specs.Shown.{shownWords, fitting, areaOf, shownIn}
 
 pub bit-past : (bytes : List ℕ) (i : ℕ) → length bytes ≤ i / 8 → bitAt bytes i ≡ false
 bit-past bytes i h = rw (List·getD-eq-default bytes 0 h, zero-div (2 ^ (i % 8)))
@@ -103,42 +105,6 @@ unfolding wordsAtOnes
 shown-past bitmap out rows a n h = let e = drop-of-length-le rows {i = rowsMax * a} (omega arith) in
     rw (e, take-nil rowsMax, take-nil n, take-nil (length out)) (refl, refl)
 
--- ---- calls that are no scan, by their tags in the code
-
-pub other-answer : (a : Answer) → OneOf (0 ∷ 1 ∷ 2 ∷ 3 ∷ 4 ∷ 5 ∷ 6 ∷ 8 ∷ 9 ∷ 10 ∷ 11 ∷ [])
-    (tagOf answer-type.the-type a) → 0 ≡ rowsIn a
-other-answer Created h = refl
-other-answer (Begun epoch) h = refl
-other-answer (Appended rows) h = refl
-other-answer (Cleared entries) h = refl
-other-answer (Closed lce) h = refl
-other-answer (BegunRo ticket) h = refl
-other-answer (EndedRo left) h = refl
-other-answer (Scanned rows ones) h = absurd (miss (0 ∷ 1 ∷ 2 ∷ 3 ∷ 4 ∷ 5 ∷ 6 ∷ 8 ∷ 9 ∷ 10 ∷ 11 ∷ []) 7 tt h)
-other-answer (AdvancedLse lse) h = refl
-other-answer (Rewritten rows) h = refl
-other-answer (Skipped rows) h = refl
-other-answer (Refused r) h = refl
-
-pub other-command : (c : Command) (a : Answer) (ps : Partitions) (bitmap rows : List ℕ)
-    → OneOf (0 ∷ 1 ∷ 2 ∷ 3 ∷ 4 ∷ 5 ∷ 6 ∷ 7 ∷ 9 ∷ 10 ∷ []) (tagOf command-type.the-type c)
-      → shownIn c a ps bitmap rows ≡ []
-other-command (Create s) a ps bitmap rows h = refl
-other-command Begin a ps bitmap rows h = refl
-other-command (Append i p) a ps bitmap rows h = refl
-other-command (Clear i p) a ps bitmap rows h = refl
-other-command (Commit i) a ps bitmap rows h = refl
-other-command (RollBack i) a ps bitmap rows h = refl
-other-command (BeginRo e) a ps bitmap rows h = refl
-other-command (EndRo t) a ps bitmap rows h = refl
-other-command (Scan r p) a ps bitmap rows h = absurd (miss (0 ∷ 1 ∷ 2 ∷ 3 ∷ 4 ∷ 5 ∷ 6 ∷ 7 ∷ 9 ∷ 10 ∷ []) 8 tt h)
-other-command (AdvanceLse t) a ps bitmap rows h = refl
-other-command (Purge p) a ps bitmap rows h = refl
-
-pub scan-shown : (c : Command) (r : Reader) (p : ℕ) (a : Answer) (ps : Partitions) (bitmap rows : List ℕ) (at n : ℕ)
-    → c ≡ Scan r p → at ≡ areaOf ps p → n ≡ rowsIn a → shownWords bitmap at n rows ≡ shownIn c a ps bitmap rows
-scan-shown c r p a ps bitmap rows at n e f g = rw (e, f, g)
-
 -- ---- the rows at the front of the buffer are those that have room
 
 module _ (ws buffer now : List ℕ) (n : ℕ) (counts : n ≡ length (fitting ws buffer))
@@ -150,3 +116,49 @@ module _ (ws buffer now : List ℕ) (n : ℕ) (counts : n ≡ length (fitting ws
   pub front-shown : take n now ≡ fitting ws buffer
   front-shown = rw (shows, counts) (take-append-seam (fitting ws buffer)
       (drop (0 + length (fitting ws buffer)) buffer))
+
+-- ---- the line that answers a call, by whether it is a scan
+
+-- the other commands, by their tags in the code
+no-scan : (c : Command) (a : Answer) (ps : Partitions) (bitmap rows ws : List ℕ)
+    → OneOf (0 ∷ 1 ∷ 2 ∷ 3 ∷ 4 ∷ 6 ∷ []) (tagOf the-type c)
+    → (lineOf (letterOf c) (replyOf a .number) (replyOf a .values) ≡ printed c a ws) × (shownIn c a ps bitmap rows ≡ [])
+unfolding printed
+no-scan c a ps bitmap rows ws = scan-or
+    (λ c. OneOf (0 ∷ 1 ∷ 2 ∷ 3 ∷ 4 ∷ 6 ∷ []) (tagOf the-type c)
+      → (lineOf (letterOf c) (replyOf a .number) (replyOf a .values) ≡ printed c a ws)
+        × (shownIn c a ps bitmap rows ≡ []))
+    (λ r p h. absurd (miss (0 ∷ 1 ∷ 2 ∷ 3 ∷ 4 ∷ 6 ∷ []) 5 tt h)) (λ c n h. (rw (n _ _ _), n _ _ _)) c
+
+module _ (c : Command) (a : Answer) (ps : Partitions) (bitmap rows buffer out : List ℕ) (letter : ℕ) (w : ReplyWords)
+    (is-letter : letter ≡ letterOf c) (is-reply : w ≡ wordsOf (replyOf a)) (size : ℕ) (o : List ℕ) where
+  abbrev shown : List ℕ
+  shown = shownIn c a ps bitmap rows
+
+  -- how many bytes, the output and the buffer at the end
+  abbrev Printed : List ℕ → Type 0
+  Printed v = (size ≡ sizeIn (printed c a (fitting shown buffer)) out)
+      × ((o ≡ writtenIn (printed c a (fitting shown buffer)) out) × (v ≡ over 0 (fitting shown buffer) buffer))
+
+  module _ (vs : List ℕ) (sizes : size ≡ sizeIn (lineOf letter (w .number) vs) out)
+      (writes : o ≡ writtenIn (lineOf letter (w .number) vs) out) where
+    line-printed : (v : List ℕ) → lineOf letter (w .number) vs ≡ printed c a (fitting shown buffer)
+        → v ≡ over 0 (fitting shown buffer) buffer → Printed v
+    line-printed v l e = (sizes ∙ ap (λ (l : List ℕ). sizeIn l out) l,
+        (writes ∙ ap (λ (l : List ℕ). writtenIn l out) l, e))
+
+    pub scan-printed : (r : Reader) (p at n : ℕ) (v : List ℕ) → c ≡ Scan r p → at ≡ areaOf ps p → vs ≡ take n v
+        → let ws = fitting (shownWords bitmap at (getD (w .values) 0 0) rows) buffer in
+          n ≡ length ws → v ≡ over 0 ws buffer → Printed v
+    unfolding printed
+    scan-printed r p at n v is is-at is-front counts shows =
+        let ws = shownWords bitmap at (getD (w .values) 0 0) rows in
+        let f = front-shown ws buffer v n counts shows in
+        let g : ws ≡ shown = rw (is, is-at, is-reply, getD-pad valuesMax 0 (replyOf a .values) 0) in
+        line-printed v (rw (is-front, f, g, is-letter, is-reply, is)) (rw g at shows)
+
+    pub other-printed : OneOf (0 ∷ 1 ∷ 2 ∷ 3 ∷ 4 ∷ 6 ∷ []) (tagOf the-type c) → vs ≡ take (w .count) (w .values)
+        → Printed buffer
+    other-printed h is-front = let e = no-scan c a ps bitmap rows (fitting shown buffer) h in
+        line-printed buffer (rw (is-front, is-reply, take-pad valuesMax 0 (replyOf a .values), is-letter) (e .0))
+          (rw (e .1, take-nil (length buffer)))

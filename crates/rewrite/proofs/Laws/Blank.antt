@@ -1,43 +1,21 @@
 -- What a rewrite decides goes by the number of words alone. Definitions: specs/Bare.antt, specs/Plan.antt,
 -- specs/Kept.antt.
--- In order: blank; bare entries are blank spans; tests; plans; kept; joined; entries and how many words.
+-- In order: tests; plans; kept; joined; entries and how many words. Elsewhere: blank spans (visible's Laws/Flags.antt).
 -- Assumes nothing.
 use mathlib.Core.Path.{_≡_, refl, sym, ap, _∙_}
-use mathlib.Core.Bool.{Bool, true, _&&_}
 use mathlib.Core.List.{List, [], _∷_, map}
 use Prim.Native.Nat.{ℕ, _+_, _-_}
-use native.Mathlib.Omega.{arith}
-use lib.Dec.{ltb, eqb}
-use lib.ListN.{length, take, drop, replicate, length-append}
-use lib.ListN.{length-drop, length-replicate, length-map, replicate-append-replicate}
-use lib.Seq.{length-take-le}
+use lib.Dec.{eqb}
+use lib.ListN.{length, replicate, length-append}
+use lib.ListN.{length-replicate, length-map, replicate-append-replicate}
 use Rattle.lists.proofs.Laws.Bools.{split}
-use Rattle.lists.proofs.Laws.Filter.{anyOf-map}
-use Rattle.rules.specs.Span.{Span, isDelete, spans, entriesOf, wordsOf}
+use Rattle.rules.specs.Span.{Span, entriesOf, wordsOf}
 use Rattle.rules.specs.Sees.{upTo}
-use Rattle.rules.specs.Hides.{hidden}
 use Rattle.rules.specs.Rewrite.{joinedOnto, joined, hasEpoch, skips}
-use Rattle.rules.specs.WellFormed.{endsOk}
-use Rattle.rules.specs.declared.Entry.{Entry}
-use Rattle.rules.proofs.Laws.Span.{end-ok, endsOk-le}
 use Rattle.rules.proofs.Laws.Rewrite.{joins}
-use Rattle.visible.specs.Bare.{bare}
+use Rattle.visible.proofs.Laws.Flags.{blank, hidden-blank}
 use Rattle.rewrite_plan.specs.Plan.{rollEpochs, purgeEpochs}
 use Rattle.rewrite.specs.Kept.{kept, asRewritten}
-
--- a span with as many words, all 0
-abbrev pub blank : Span → Span
-blank s = record { epoch = s .epoch; mark = s .mark; words = replicate (length (s .words)) 0 }
-
-pub bare-blank : (rows n : ℕ) (es : List Entry) (ws : List ℕ) → endsOk rows n es ≡ true → length ws ≡ rows - n
-    → bare n es ≡ map blank (spans n es ws)
-unfolding bare spans
-bare-blank rows n [] ws h l = refl
-bare-blank rows n (e ∷ es) ws h l =
-    let c = end-ok rows n e es h in let g = endsOk-le rows (e .end) es (c .rest) in
-    let k : length (take (e .end - n) ws) ≡ e .end - n = length-take-le (e .end - n) ws (omega arith) in
-    let ih = bare-blank rows (e .end) es (drop (e .end - n) ws) (c .rest) (simp length-drop (omega arith)) in
-    rw (k, ih)
 
 -- ---- tests
 
@@ -52,13 +30,6 @@ skips-blank l [] = refl
 skips-blank l (s ∷ ss) = rw (skips-blank l ss)
 
 -- ---- plans
-
-hidden-blank : (a : ℕ → Bool) (all rest : List Span) (j : ℕ) → hidden a (map blank all) (map blank rest) j ≡
-    hidden a all rest j
-unfolding hidden
-hidden-blank a all rest j =
-    rw (anyOf-map (λ s. isDelete s && (a (s .epoch) && ltb j (s .epoch))) blank all,
-      anyOf-map (λ s. isDelete s && (a (s .epoch) && eqb j (s .epoch))) blank rest)
 
 pub roll-blank : (i : ℕ) (ss : List Span) → rollEpochs i (map blank ss) ≡ rollEpochs i ss
 unfolding rollEpochs

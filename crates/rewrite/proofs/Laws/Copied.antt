@@ -1,19 +1,20 @@
 -- Rows copied entry by entry. Definitions: specs/Copied.antt.
--- In order: two areas apart, by cases; the words of a first entry; Copied, the rows of the entries up to an
--- index.
+-- In order: two areas apart, by cases; a run, element by element; the words of a first entry; Copied, the rows of the
+-- entries up to an index.
 -- Assumes nothing.
 use mathlib.Core.Path.{_≡_, refl, sym, ap, _∙_}
-use mathlib.Core.Bool.{true, false, _&&_, _||_, cond}
+use mathlib.Core.Bool.{true, false, _&&_, _||_, cond, and-false}
 use mathlib.Core.Logic.{_⊎_, inl, inr, ⊎-elim}
 use mathlib.Core.List.{List, [], _∷_, _++_, append-assoc, append-nil}
-use Prim.Native.Nat.{ℕ, suc, _+_, _-_, _≤_, _<_}
+use Prim.Native.Nat.{ℕ, _+_, _-_, _≤_, _<_}
 use native.Mathlib.Omega.{arith}
 use lib.Dec.{leb, eqb}
-use lib.ListN.{length, take, drop, length-append, length-drop, take-append-drop}
-use lib.Seq.{drop-drop, length-take-le}
+use lib.ListN.{length, take, drop, getD, set, length-append, length-drop}
+use lib.Seq.{drop-drop, getD-drop, length-take-le}
 use borrow.Author.Tests.{leb-true, le-leb, lt-leb}
 use Rattle.lists.specs.Lists.{part, over}
-use Rattle.lists.proofs.Laws.Bools.{split, and-left, and-right, and-false, or-cases}
+use Rattle.lists.proofs.Laws.Bools.{split, and-left, and-right, or-cases}
+use Rattle.lists.proofs.Laws.Over.{over-nil, over-append, copy-next, part-apart, getD-apart, part-part}
 use Rattle.lists.proofs.Laws.Parts.{length-part}
 use Rattle.rules.specs.Limits.{rowsMax}
 use Rattle.rules.specs.Span.{spans, wordsOf}
@@ -22,7 +23,6 @@ use Rattle.rewrite.specs.Kept.{kept, endsFit}
 use Rattle.rewrite.specs.Copied.{keptWords, areasApart}
 use Rattle.rewrite.proofs.Laws.Ends.{end-low, ends-rest, ends-high}
 use Rattle.rewrite.proofs.Laws.Kept.{kept-nil}
-use Rattle.rewrite.proofs.Laws.Over.{over-over, part-apart, part-part}
 
 -- ---- two areas apart, by cases
 
@@ -61,6 +61,17 @@ module _ (from to n : ℕ) where
         apart = or-cases c d (and-right b (c || d) bc) (λ t. inl (leb-true (from + rowsMax) to t))
             (λ f t. inr (leb-true (to + rowsMax) from t)) }
 
+-- ---- a run, element by element
+
+pub run-next : (src dst n : ℕ) (xs : List ℕ) → src + n ≤ length xs → dst + n ≤ length xs
+    → (src + n ≤ dst) ⊎ (dst + n ≤ src) → (j : ℕ) → j < n → let ys = over dst (part src j xs) xs in
+      set ys (dst + j) (getD ys (src + j) 0) ≡ over dst (part src (j + 1) xs) xs
+run-next src dst n xs hs hd apart j h =
+    let l = length-part src j xs (omega arith) in
+    rw (getD-apart dst (part src j xs) xs (omega arith) (src + j) 0
+        (⊎-elim (λ a. inl (omega arith)) (λ a. inr (omega arith)) apart), ← getD-drop src xs j 0)
+      (copy-next dst (drop src xs) xs 0 j (omega (arith, length-drop src xs)) (omega arith))
+
 -- ---- the words of a first entry
 
 abbrev pub runOf : ℕ → ℕ → Entry → ℕ
@@ -89,40 +100,38 @@ pub record Copied (ps : List ℕ) (es : List Entry) (from to : ℕ) (lent : List
       ≡ words ++ wordsOf (kept (drop k ps) (spans start (drop k es) (drop start (part from rowsMax lent))))
   pub holds : rows ≡ over to words lent
 
+-- the turn of entry e, of which n rows are copied
+pub record Turn (ps : List ℕ) (es : List Entry) (from to : ℕ) (lent : List ℕ) (k start done : ℕ)
+    (rows : List ℕ) (e : Entry) (n : ℕ) : Type 0 where
+  pub begins : start ≤ e .end
+  pub done-in : done + n ≤ rowsMax
+  pub src-in : from + start + n ≤ length lent
+  pub dst-in : to + done + n ≤ length lent
+  pub apart : (from + start + n ≤ to + done) ⊎ (to + done + n ≤ from + start)
+  pub next : (rows′ : List ℕ) → rows′ ≡ over (to + done) (part (from + start) n rows) rows
+      → Copied ps es from to lent (k + 1) (e .end) (done + n) rows′
+
 module _ (ps : List ℕ) (es : List Entry) (from to : ℕ) (lent : List ℕ) (ok : AreasApart from to (length lent))
     where
   pub copied-none : endsFit 0 es ≡ true → Copied ps es from to lent 0 0 0 lent
   unfolding keptWords
-  copied-none h = let z : to + 0 ≡ to = omega arith in record {
-    words = []; long = refl; low = omega arith; ends = h; rest = refl; holds = rw z
-        (sym (take-append-drop to lent)) }
+  copied-none h = record {
+    words = []; long = refl; low = omega arith; ends = h; rest = refl; holds = sym (over-nil to lent) }
 
   module _ (k start done : ℕ) (rows : List ℕ) (m : Copied ps es from to lent k start done rows) where
-    module _ (p : ℕ) (e : Entry) (dp : drop k ps ≡ p ∷ drop (suc k) ps) (de : drop k es ≡ e ∷ drop (suc k) es)
+    module _ (p : ℕ) (e : Entry) (dp : drop k ps ≡ p ∷ drop (k + 1) ps) (de : drop k es ≡ e ∷ drop (k + 1) es)
         where
-      fits : endsFit start (e ∷ drop (suc k) es) ≡ true
+      fits : endsFit start (e ∷ drop (k + 1) es) ≡ true
       fits = rw de at (m .ends)
 
-      pub begins : start ≤ e .end
-      begins = end-low start e (drop (suc k) es) fits
+      begins : start ≤ e .end
+      begins = end-low start e (drop (k + 1) es) fits
 
-      pub within : e .end ≤ rowsMax
-      within = ends-high (e .end) (drop (suc k) es) (ends-rest start e (drop (suc k) es) fits)
+      within : e .end ≤ rowsMax
+      within = ends-high (e .end) (drop (k + 1) es) (ends-rest start e (drop (k + 1) es) fits)
 
       abbrev n : ℕ
       n = runOf p start e
-
-      pub record RunOk (n : ℕ) : Type 0 where
-        pub done-in : done + n ≤ rowsMax
-        pub src-in : from + start + n ≤ length lent
-        pub dst-in : to + done + n ≤ length lent
-        pub apart : (from + start + n ≤ to + done) ⊎ (to + done + n ≤ from + start)
-
-      pub run-ok : RunOk n
-      run-ok = let a = run-le p start e in let b = begins in let w = within in let l = m .low in
-          let f = ok .from-in in let t = ok .to-in in record {
-            done-in = omega arith; src-in = omega arith; dst-in = omega arith;
-            apart = ⊎-elim (λ h. inl (omega arith)) (λ h. inr (omega arith)) (ok .apart) }
 
       abbrev ws : List ℕ
       ws = part from rowsMax lent
@@ -135,10 +144,10 @@ module _ (ps : List ℕ) (es : List Entry) (from to : ℕ) (lent : List ℕ) (ok
           ap (part (from + start) n) (m .holds)
           ∙ (part-apart to (m .words) lent (omega arith) (from + start) n
               (⊎-elim (λ h. inl (omega arith)) (λ h. inr (omega arith)) (ok .apart))
-          ∙ sym (part-part from rowsMax start n lent (omega arith) (ok .from-in)))
+          ∙ sym (part-part from rowsMax start n lent (omega arith)))
 
-      pub copied-next : (rows′ : List ℕ) → rows′ ≡ over (to + done) (part (from + start) n rows) rows
-          → Copied ps es from to lent (suc k) (e .end) (done + n) rows′
+      copied-next : (rows′ : List ℕ) → rows′ ≡ over (to + done) (part (from + start) n rows) rows
+          → Copied ps es from to lent (k + 1) (e .end) (done + n) rows′
       copied-next rows′ w =
           let a = run-le p start e in let b = begins in let i = within in let l = m .low in let t = ok .to-in
               in
@@ -149,14 +158,20 @@ module _ (ps : List ℕ) (es : List Entry) (from to : ℕ) (lent : List ℕ) (ok
             words = m .words ++ T;
             long = length-append (m .words) T ∙ omega (arith, m .long);
             low = omega arith;
-            ends = ends-rest start e (drop (suc k) es) fits;
-            rest = m .rest ∙ (rw (dp, de, words-first p start (drop (suc k) ps) e (drop (suc k) es) ws b)
-              (sym (append-assoc (m .words) T (wordsOf (kept (drop (suc k) ps)
-                  (spans (e .end) (drop (suc k) es) (drop (e .end) ws)))))));
+            ends = ends-rest start e (drop (k + 1) es) fits;
+            rest = m .rest ∙ (rw (dp, de, words-first p start (drop (k + 1) ps) e (drop (k + 1) es) ws b)
+              (sym (append-assoc (m .words) T (wordsOf (kept (drop (k + 1) ps)
+                  (spans (e .end) (drop (k + 1) es) (drop (e .end) ws)))))));
             holds = w ∙ (ap (λ (v : List ℕ). over (to + done) v rows) read
               ∙ (ap (λ (x : List ℕ). over (to + done) T x) (m .holds)
               ∙ (ap (λ (d : ℕ). over (to + d) T (over to (m .words) lent)) (sym (m .long))
-              ∙ over-over to (m .words) lent (omega (arith, m .long)) T))) }
+              ∙ sym (over-append to (m .words) T lent (omega (arith, m .long)))))) }
+
+      pub copied-turn : (run : ℕ) → run ≡ runOf p start e → Turn ps es from to lent k start done rows e run
+      copied-turn run h = let a = run-le p start e in let b = begins in let w = within in let l = m .low in
+          let f = ok .from-in in let t = ok .to-in in rw h (record {
+            begins = begins; done-in = omega arith; src-in = omega arith; dst-in = omega arith;
+            apart = ⊎-elim (λ g. inl (omega arith)) (λ g. inr (omega arith)) (ok .apart); next = copied-next })
 
     pub copied-all : drop k es ≡ [] → rows ≡ over to (keptWords ps es (part from rowsMax lent)) lent
     unfolding spans wordsOf

@@ -1,27 +1,19 @@
 -- The ends of entries, one entry at a time. Definition: endsFit of specs/Kept.antt.
--- In order: where an end falls, where it does not; what endsFit says of a first entry.
+-- What endsFit says of a first entry, and of where it begins.
 -- Assumes nothing.
 use mathlib.Core.Path.{_≡_}
-use mathlib.Core.Bool.{true, false}
+use mathlib.Core.Bool.{true}
 use mathlib.Core.List.{List, [], _∷_}
-use Prim.Native.Nat.{ℕ, _≤_, _<_}
+use Prim.Native.Nat.{ℕ, _≤_}
 use native.Mathlib.Omega.{arith}
 use lib.Dec.{leb}
-use borrow.Author.Tests.{leb-true, le-leb, lt-leb}
+use borrow.Author.Tests.{leb-true}
 use Rattle.lists.proofs.Laws.Bools.{and-left, and-right}
 use Rattle.rules.specs.Limits.{rowsMax}
 use Rattle.rules.specs.declared.Entry.{Entry}
 use Rattle.rewrite.specs.Kept.{endsFit}
 
 module _ (n : ℕ) (e : Entry) (es : List Entry) where
-  pub ends-fall : e .end < n → endsFit n (e ∷ es) ≡ false
-  unfolding endsFit
-  ends-fall h = rw (lt-leb n (e .end) h)
-
-  pub ends-next : n ≤ e .end → endsFit n (e ∷ es) ≡ endsFit (e .end) es
-  unfolding endsFit
-  ends-next h = rw (le-leb n (e .end) h)
-
   pub end-low : endsFit n (e ∷ es) ≡ true → n ≤ e .end
   unfolding endsFit
   end-low h = leb-true n (e .end) (and-left (leb n (e .end)) (endsFit (e .end) es) h)

@@ -2,25 +2,26 @@
 -- In order: size, entriesBack and lastOf of spans held the last first; a step; the array.
 -- Assumes nothing.
 use mathlib.Core.Path.{_≡_, refl, ap, _∙_}
-use mathlib.Core.Bool.{Bool, true, false, not, _&&_, cond}
-use mathlib.Core.List.{List, [], _∷_, _++_, append-assoc, append-nil}
+use mathlib.Core.Bool.{Bool, true, false, not, _&&_, cond, and-false}
+use mathlib.Core.List.{List, [], _∷_, _++_, append-nil}
 use Prim.Native.Nat.{ℕ, suc, _+_, _-_, _≤_, _<_}
 use native.Mathlib.Numerals.{add-one}
 use native.Mathlib.Omega.{arith}
 use lib.Dec.{eqb}
 use lib.ListN.{length, set, replicate, length-append, length-replicate}
-use lib.Seq.{set-at}
-use borrow.Author.Tests.{eqb-true, eq-eqb, ne-eqb}
+use borrow.Author.Tests.{eqb-true}
 use Rattle.lists.specs.Lists.{pad}
-use Rattle.lists.proofs.Laws.Bools.{split, and-right, and-false}
+use Rattle.lists.proofs.Laws.Places.{pad-put, pad-again}
+use Rattle.lists.proofs.Laws.Bools.{split, and-right}
 use Rattle.rules.specs.Limits.{entriesMax}
 use Rattle.rules.specs.Span.{Span, isDelete, entriesOf, wordsOf}
 use Rattle.rules.specs.declared.Entry.{Entry}
 use Rattle.rules.proofs.Laws.Span.{wordsOf-append}
 use Rattle.rules.proofs.Laws.Rewrite.{joins}
-use Rattle.visible.specs.Bare.{noEntry, bareSpan}
+use Rattle.visible.specs.Bare.{bareSpan}
+use Rattle.lent.specs.Entries.{none}
 use Rattle.rewrite.specs.Kept.{renewed}
-use Rattle.rewrite.specs.Passes.{joinsLast, pushed, grown, stepped}
+use Rattle.rewrite.specs.Passes.{joinsLast, stepped}
 use Rattle.rewrite.specs.declared.keep.Last.{Last}
 use Rattle.rewrite.proofs.Laws.Back.{back, push, length-push}
 
@@ -43,7 +44,7 @@ entriesBack (t ∷ r) = entriesBack r ++ (entryOf t (size r + length (t .words))
 -- what the code holds of them
 unfoldable pub lastOf : List Span → Last
 unfolding size
-lastOf [] = record { place = 0; count = 0; rows = 0; entry = noEntry }
+lastOf [] = record { place = 0; count = 0; rows = 0; entry = none }
 lastOf (t ∷ r) = let n = size r + length (t .words) in
     record { place = length r; count = suc (length r); rows = n; entry = entryOf t n }
 
@@ -95,21 +96,6 @@ place-last [] h = omega arith
 place-last (t ∷ r) h = omega arith
 
 -- ---- a step
-
-module _ (last : Last) (p : ℕ) (e : Entry) (from : ℕ) where
-  pub stepped-none : p ≡ 0 → stepped last p e from ≡ last
-  unfolding stepped
-  stepped-none h = rw (eq-eqb p 0 h)
-
-  pub stepped-join : (p ≡ 0 → ⊥) → joinsLast (last .entry) p e ≡ true
-      → stepped last p e from ≡ grown last p (last .rows + (e .end - from))
-  unfolding stepped
-  stepped-join h t = rw (ne-eqb p 0 h, t)
-
-  pub stepped-push : (p ≡ 0 → ⊥) → joinsLast (last .entry) p e ≡ false
-      → stepped last p e from ≡ pushed last p e (last .rows + (e .end - from))
-  unfolding stepped
-  stepped-push h f = rw (ne-eqb p 0 h, f)
 
 -- the entry as a span with its new epoch
 abbrev spanOf : ℕ → Entry → ℕ → Span
@@ -163,33 +149,15 @@ module _ (p : ℕ) (e : Entry) (from : ℕ) where
 
 -- ---- the array
 
-module _ (z : Entry) where
-  -- one more
-  set-more : (xs : List Entry) (n : ℕ) (y : Entry) → length xs ≡ n → n < entriesMax
-      → set (pad entriesMax z xs) n y ≡ pad entriesMax z (xs ++ (y ∷ []))
-  set-more xs n y e h =
-      let r : entriesMax - n ≡ suc (entriesMax - suc n) = omega arith in
-      let l : length xs + 1 ≡ suc n = omega arith in
-      rw (length-append xs (y ∷ []), l, append-assoc xs (y ∷ []) (replicate (entriesMax - suc n) z), e, r)
-        (set-at xs z (replicate (entriesMax - suc n) z) y n e)
-
-  -- another in the last place
-  set-over : (xs : List Entry) (w : Entry) (n : ℕ) (y : Entry) → length xs ≡ n
-      → set (pad entriesMax z (xs ++ (w ∷ []))) n y ≡ pad entriesMax z (xs ++ (y ∷ []))
-  set-over xs w n y e = let tail = replicate (entriesMax - (length xs + 1)) z in
-      rw (length-append xs (w ∷ []), length-append xs (y ∷ []), append-assoc xs (w ∷ []) tail, append-assoc xs
-          (y ∷ []) tail)
-        (set-at xs w tail y n e)
-
 pub array-next : (p : ℕ) (e : Entry) (from : ℕ) (r : List Span) → length r < entriesMax
     → let last = lastOf (next p e from r) in
-      set (pad entriesMax noEntry (entriesBack r)) (last .place) (last .entry) ≡ pad entriesMax noEntry
+      set (pad entriesMax none (entriesBack r)) (last .place) (last .entry) ≡ pad entriesMax none
           (entriesBack (next p e from r))
 unfolding next push lastOf entriesBack size
-array-next p e from [] h = split (eqb p 0) (λ t. rw t) (λ f. rw f (set-more noEntry [] 0 _ refl (omega arith)))
+array-next p e from [] h = split (eqb p 0) (λ t. rw t) (λ f. rw f (pad-put entriesMax none [] _ 0 refl (omega arith)))
 array-next p e from (t ∷ r) h = split (eqb p 0)
-    (λ z. rw z (set-over noEntry (entriesBack r) _ (length r) _ (length-entriesBack r)))
+    (λ z. rw z (pad-again entriesMax none (entriesBack r) _ _ (length r) (length-entriesBack r)))
     (λ f. split (joins t (spanOf p e from))
-      (λ j. rw (f, j) (set-over noEntry (entriesBack r) _ (length r) _ (length-entriesBack r)))
-      (λ g. rw (f, g) (set-more noEntry (entriesBack (t ∷ r)) (suc (length r)) _ (length-entriesBack (t ∷ r))
-          h)))
+      (λ j. rw (f, j) (pad-again entriesMax none (entriesBack r) _ _ (length r) (length-entriesBack r)))
+      (λ g. rw (f, g) (pad-put entriesMax none (entriesBack (t ∷ r)) _ (suc (length r))
+        (length-entriesBack (t ∷ r)) h)))

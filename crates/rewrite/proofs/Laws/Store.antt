@@ -5,16 +5,16 @@
 use mathlib.Core.Path.{_≡_, refl, sym, ap, _∙_}
 use mathlib.Core.Bool.{true, false, not, _||_}
 use mathlib.Core.List.{List, [], _∷_, _++_, map}
-use Prim.Native.Nat.{ℕ, zero, suc, _+_, _-_, _≤_, _<_, max}
+use Prim.Native.Nat.{ℕ, _+_, _-_, _≤_, _<_, max}
 use native.Mathlib.Omega.{arith}
 use lib.Dec.{ltb, leb, eqb}
 use lib.ListN.{length, take, drop, replicate}
-use lib.Seq.{take-take, take-nil, drop-nil}
+use lib.Seq.{take-take}
 use borrow.Author.Tests.{leb-true, le-leb, eqb-true, eqb-false, ne-eqb}
 use Rattle.lists.specs.Lists.{keepIf, pad, part, over, elem}
 use Rattle.lists.proofs.Laws.All.{All, All-imp}
 use Rattle.lists.proofs.Laws.Bools.{split}
-use Rattle.lists.proofs.Laws.Parts.{take-pad, length-part, take-part}
+use Rattle.lists.proofs.Laws.Parts.{take-pad, drop-take, length-part, take-part}
 use Rattle.lists.proofs.Laws.Tests.{and-three}
 use Rattle.rules.specs.Limits.{rowsMax, entriesMax}
 use Rattle.rules.specs.Manager.{writersOf}
@@ -28,15 +28,17 @@ use Rattle.rules.specs.declared.Manager.{Manager}
 use Rattle.rules.proofs.Laws.Span.{end-ok, endsOk-le, length-entriesOf}
 use Rattle.rules.proofs.Laws.Rewrite.{words-joined}
 use Rattle.rules.proofs.Laws.SpansOk.{MarkOk, EpochOk}
-use Rattle.visible.specs.Bare.{entriesIn, noEntry}
+use Rattle.lent.specs.Entries.{none}
+use Rattle.area.specs.Area.{entriesIn}
 use Rattle.rewrite_plan.specs.Plan.{spansIn, planOf, rollEpochs, purgeEpochs}
 use Rattle.rewrite.specs.Kept.{renewed, kept, endsFit, areaOf, asRewritten, keptOf, rewrittenOf}
 use Rattle.rewrite.specs.Copied.{keptWords, areasApart, copyOk, rowsCopied}
-use Rattle.visible.specs.declared.Area.{Area}
+use Rattle.area.specs.declared.Area.{Area}
+use Rattle.visible.proofs.Laws.Flags.{blank, bare-blank}
 use Rattle.rewrite_plan.specs.declared.Plan.{Plan}
 use Rattle.rewrite.proofs.Laws.Copied.{areas-apart}
 use Rattle.rewrite_plan.proofs.Laws.Plan.{length-roll, length-purge}
-use Rattle.rewrite.proofs.Laws.Blank.{blank, bare-blank, has-blank}
+use Rattle.rewrite.proofs.Laws.Blank.{has-blank}
 use Rattle.rewrite.proofs.Laws.Blank.{skips-blank, roll-blank, purge-blank}
 use Rattle.rewrite.proofs.Laws.Blank.{kept-blank, joined-blank, rewritten-blank}
 
@@ -47,11 +49,6 @@ unfolding endsOk endsFit
 ends-fit rows n [] h k = let g = eqb-true n rows k in le-leb n rowsMax (omega arith)
 ends-fit rows n (e ∷ es) h k = let c = end-ok rows n e es k in
     rw (le-leb n (e .end) (c .low)) (ends-fit rows (e .end) es h (c .rest))
-
-drop-take : (k m : ℕ) (xs : List ℕ) → drop k (take (k + m) xs) ≡ take m (drop k xs)
-drop-take zero m xs = let z : 0 + m ≡ m = omega arith in rw z
-drop-take (suc k) m [] = rw (take-nil {A = ℕ} (suc k + m), drop-nil {A = ℕ} (suc k), take-nil {A = ℕ} m)
-drop-take (suc k) m (x ∷ xs) = let z : suc k + m ≡ suc (k + m) = omega arith in rw z (drop-take k m xs)
 
 -- words behind the rows are not read
 spans-take : (rows n : ℕ) (es : List Entry) (ws : List ℕ) → endsOk rows n es ≡ true
@@ -122,7 +119,7 @@ dated m ss a = All-imp (EpochOk m) Dated (λ s h. leb-true 1 (s .epoch)
 -- ---- the area of spans has their entries
 
 pub area-entries : (ts : List Span) → entriesIn (areaOf ts) ≡ entriesOf 0 ts
-area-entries ts = rw (← length-entriesOf 0 ts) (take-pad entriesMax noEntry (entriesOf 0 ts))
+area-entries ts = rw (← length-entriesOf 0 ts) (take-pad entriesMax none (entriesOf 0 ts))
 
 -- ---- an area whose entries have so many rows, with its words
 
@@ -206,7 +203,8 @@ module _ (a : Area) (rows : ℕ) (fit : rows ≤ rowsMax) (ends : endsOk rows 0 
         rw (ends-fit rows 0 (entriesIn a) fit ends, apart, same)
 
     length-lent : length (part from rows lent) ≡ rows
-    length-lent = let ok = areas-apart from to (length lent) apart in length-part from rows lent (omega (arith, ok .from-in))
+    length-lent = let ok = areas-apart from to (length lent) apart in
+        length-part from rows lent (omega (arith, ok .from-in))
 
     pub rolled-copied : (i : ℕ) → let ss = spans 0 (entriesIn a) (part from rows lent) in All Dated ss → All MarkOk ss
         → rowsCopied a (planOf (rollEpochs i (spansIn a))) from to lent ≡ over to (wordsOf (rolledBack i ss)) lent

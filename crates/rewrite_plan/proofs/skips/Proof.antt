@@ -1,92 +1,54 @@
 -- `rewrite_plan::skips` meets its contract. The invariant: the purge leaves all entries exactly if it
 -- leaves those from k on. The measure is what is left of the entries in use.
 -- Assumes nothing.
-use mathlib.Core.Path.{_≡_, refl, sym, _∙_}
-use mathlib.Core.List.{_∷_}
-use Prim.Native.Nat.{suc, _-_, _≤_}
-use native.Mathlib.Numerals.{add-one}
-use lib.ListN.{drop, getD}
-use Rattle.rules.specs.Rewrite.{skips}
-use Rattle.visible.specs.Bare.{entriesIn, noEntry, bare}
-use Rattle.rewrite_plan.specs.Plan.{spansIn}
-use Rattle.visible.proofs.Laws.Places.{unmapped}
-use Rattle.rewrite_plan.proofs.Laws.Area.{Uses, uses, entry-here, entries-end}
-use Rattle.rewrite_plan.proofs.Laws.Tests.{skips-not, skips-next}
-use borrow.Author.Tests.{not-true, not-false}
+use mathlib.Core.Path.{_≡_, sym, _∙_}
+use Prim.Native.Nat.{_-_, _≤_, min}
+use native.Mathlib.Omega.{arith}
+use lib.ListN.{length, drop}
 use borrow.Author.Needs.{needs}
+use borrow.Author.Tests.{not-true, not-false}
+use Rattle.lists.specs.Lists.{allOf}
+use Rattle.lists.proofs.Laws.Places.{used-next, used-end}
+use Rattle.rules.specs.Limits.{entriesMax}
+use Rattle.rules.specs.Rewrite.{skips}
+use Rattle.lent.specs.Entries.{none}
+use Rattle.area.specs.Area.{entriesIn}
+use Rattle.area.proofs.Laws.Area.{area-length}
+use Rattle.rewrite_plan.specs.Plan.{spansIn}
+use Rattle.rewrite_plan.proofs.Laws.Tests.{left, skips-entries}
 use Rattle.rewrite_plan.proofs.skips.Statement.{statement}
 use Rattle.rewrite_plan.proofs.skips.Tie as tie
 
 abbrev Inv-loop : tie.InvT-loop
-Inv-loop l a n k₀ k = (k ≤ n) × Uses a n × (skips l (spansIn a) ≡ skips l (bare 0 (drop k (entriesIn a))))
+Inv-loop l a n k₀ k = (k ≤ n) × (n ≡ min (a .count) entriesMax) × (length (a .at) ≡ entriesMax)
+    × (skips l (spansIn a) ≡ allOf (left l) (drop k (entriesIn a)))
 
 abbrev μ-loop : tie.MeasureT-loop
 μ-loop l a n k₀ k = n - k
 
--- the entry at k, and those after it
-here : (k : tie.In-loop Inv-loop μ-loop) → let a = k .before .before .before .args in let l = k .before .loop
-    in
-    skips (a .l) (spansIn (a .t1)) ≡ skips (a .l) (bare 0 (getD (a .t1 .at) (l .k) noEntry ∷ drop (suc (l .k))
-        (entriesIn (a .t1))))
-here k = let a = k .before .before .before .args in let l = k .before .loop in
-    l .inv .2 ∙ rw (entry-here (a .t1) (k .before .before .in-use .result) (l .inv .1) (l .k)
-        (k .loop-test .taken))
-
-in-use-requires : tie.Need-in-use-requires Inv-loop μ-loop
-in-use-requires c κs = search needs
-
 loop-holds : tie.Need-loop-holds Inv-loop μ-loop
-loop-holds c = let a = c .before .args .t1 in
-    (search needs, uses a (c .in-use .result) (unmapped _ (a .at) 64 (c .before .good .0 .1 .1 .0 .1 .0 .1))
-        (c .in-use .ensures), refl)
-
-mul-e : tie.Need-mul-e Inv-loop μ-loop
-mul-e c = search needs
-
-element-copy-out-e : tie.Need-element-copy-out-e Inv-loop μ-loop
-element-copy-out-e c = search needs
-
-stays-requires : tie.Need-stays-requires Inv-loop μ-loop
-stays-requires c κs = search needs
+loop-holds c = let s = c .before in let a = s .args .t1 in
+    (omega arith, c .in-use .ensures, area-length a _ (s .good .0), skips-entries (s .args .l) 0 (entriesIn a))
 
 returns : tie.Need-returns Inv-loop μ-loop
-returns c = let k = c .before .before .before in let r = c .before .stays in let a = k .before .before .before
-    .args in let l = k .before .loop in
-    sym (here k ∙ skips-not (a .l) 0 (getD (a .t1 .at) (l .k) noEntry) (drop (suc (l .k)) (entriesIn (a .t1)))
-        (sym (r .ensures) ∙ not-true (r .result) (c .if1 .taken)))
-
-add-k : tie.Need-add-k Inv-loop μ-loop
-add-k c = search needs
-
-loop-less : tie.Need-loop-less Inv-loop μ-loop
-loop-less c = search needs
+returns c = let k = c .before .before .before in let a = k .before .before .before .args .t1 in
+    let l = k .before .loop in let u = l .inv .1 in let r = c .before .stays in
+    sym (l .inv .3 ∙ rw (used-next (a .at) (a .count) entriesMax (l .inv .2) none (l .k) (omega arith),
+      sym (r .ensures) ∙ not-true (r .result) (c .if1 .taken)))
 
 loop-again : tie.Need-loop-again Inv-loop μ-loop
-loop-again c = let k = c .before .before .before in let r = c .before .stays in let a = k .before .before
-    .before .args in let l = k .before .loop in
-    (search needs, l .inv .1, rw add-one (here k
-      ∙ skips-next (a .l) 0 0 (getD (a .t1 .at) (l .k) noEntry) (drop (suc (l .k)) (entriesIn (a .t1)))
-          (sym (r .ensures) ∙ not-false (r .result) (c .if1 .left))))
+loop-again c = let k = c .before .before .before in let a = k .before .before .before .args .t1 in
+    let l = k .before .loop in let u = l .inv .1 in let r = c .before .stays in
+    (omega arith, l .inv .1, l .inv .2, l .inv .3
+      ∙ rw (used-next (a .at) (a .count) entriesMax (l .inv .2) none (l .k) (omega arith),
+        sym (r .ensures) ∙ not-false (r .result) (c .if1 .left)))
 
 returns-2 : tie.Need-returns-2 Inv-loop μ-loop
-unfolding skips bare
-returns-2 c = let a = c .before .before .before .args in let l = c .before .loop in
-    sym (l .inv .2 ∙ rw (entries-end (a .t1) (c .before .before .in-use .result) (l .inv .1) (l .k)
-        (c .loop-test .left)))
+returns-2 c = let a = c .before .before .before .args .t1 in let l = c .before .loop in let u = l .inv .1 in
+    sym (l .inv .3 ∙ rw (used-end (a .at) (a .count) entriesMax (l .inv .2) (l .k) (omega arith)))
 
 pub skips-spec : {M : Type 1} → statement M
 skips-spec =
     tie.close
-    (tie.spec
-    Inv-loop
-    μ-loop
-    in-use-requires
-    loop-holds
-    mul-e
-    element-copy-out-e
-    stays-requires
-    returns
-    add-k
-    loop-less
-    loop-again
-    returns-2)
+    (tie.spec Inv-loop μ-loop (λ c κs. search needs) loop-holds (λ c. search needs) (λ c. search needs)
+      (λ c κs. search needs) returns (λ c. search needs) (λ c. search needs) loop-again returns-2)

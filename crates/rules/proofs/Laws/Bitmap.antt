@@ -9,9 +9,9 @@ use Prim.Native.Nat.{ℕ, zero, suc, _+_, _-_, _*_, _/_, _%_, _^_, _≤_, _<_}
 use native.Mathlib.Nat.{pow-succ', zero-div, div-div-eq-div-mul}
 use native.Mathlib.Omega.{arith}
 use lib.Dec.{eqb}
-use lib.ListN.{length, take, drop, getD, length-append, length-drop, List·getD-append, List·getD-eq-default}
+use lib.ListN.{length, take, drop, getD, List·getD-append, List·getD-eq-default}
 use lib.Seq.{getD-take, getD-drop, drop-at, drop-drop, drop-cons}
-use Rattle.lists.proofs.Laws.All.{All, All-append, All-drop}
+use Rattle.lists.proofs.Laws.All.{All}
 use Rattle.lists.proofs.Laws.Select.{select, select-nil}
 use Rattle.rules.specs.Bitmap.{bytesFor, byteOf, packed, bitmapAfter}
 use Rattle.rules.specs.Claim.{bitAt, wordsAtOnes}
@@ -98,18 +98,9 @@ module _ (bs : List Bool) (lent : List ℕ) where
 
   -- ---- lengths and the later bytes
 
-  pub length-bitmap : bytesFor (length bs) ≤ length lent → length (bitmapAfter bs lent) ≡ length lent
-  unfolding bitmapAfter
-  length-bitmap h = let g = length-packed (bytesFor (length bs)) bs in simp (length-append, length-drop) (omega arith)
-
   pub bitmap-later : drop (bytesFor (length bs)) (bitmapAfter bs lent) ≡ drop (bytesFor (length bs)) lent
   unfolding bitmapAfter
   bitmap-later = let n = bytesFor (length bs) in drop-at (packed n bs) (drop n lent) n (length-packed n bs)
-
-  pub bitmap-small : All (λ b. b < 256) lent → All (λ b. b < 256) (bitmapAfter bs lent)
-  unfolding bitmapAfter
-  bitmap-small h = let n = bytesFor (length bs) in
-      All-append _ (packed n bs) (drop n lent) (packed-small n bs) (All-drop _ n lent h)
 
 -- ---- the words at the ones are those at the flags
 

@@ -1,48 +1,34 @@
--- What an accepted answer says of the store, and what a refused call leaves. Definitions: specs/Calls.antt,
--- specs/Step.antt.
--- In order: a refusal, what each call passed, refused calls.
+-- What an accepted answer says of the store. Definitions: specs/Calls.antt.
+-- In order: an answer behind its tests, what each call passed. Elsewhere: answers as such (Laws/Answers.antt).
 -- Assumes nothing.
-use mathlib.Core.Path.{_≡_, refl, sym, _∙_, ap}
-use mathlib.Core.Bool.{Bool, true, false, not, _&&_, cond}
-use mathlib.Core.List.{List, [], _∷_}
+use mathlib.Core.Path.{_≡_, refl, sym, _∙_}
+use mathlib.Core.Bool.{Bool, true, false, not}
+use mathlib.Core.List.{List}
 use Prim.Native.Nat.{ℕ, suc, _+_, _-_, _≤_, _<_}
 use native.Mathlib.Omega.{arith}
 use lib.ListN.{length}
 use lib.Dec.{ltb, leb, eqb}
 use borrow.Author.Tests.{ltb-false, leb-true, leb-false, eqb-false, not-false}
-use Rattle.lists.proofs.Laws.Bools.{split, and-left, and-right}
+use Rattle.lists.proofs.Laws.Bools.{and-left, and-right}
 use Rattle.rules.specs.Limits.{lastEpoch, lastTicket, writersMax, readersMax, partitionsMax, rowsMax}
 use Rattle.rules.specs.Limits.{entriesMax}
-use Rattle.rules.specs.Manager.{hasOpen, hasReader}
+use Rattle.rules.specs.Manager.{hasOpen}
 use Rattle.rules.specs.ReadOnly.{snapshotEpoch}
 use Rattle.rules.specs.Safe.{blocked, targetOf}
 use Rattle.rules.specs.Append.{appended}
 use Rattle.rules.specs.Store.{Store, managerOf, partitionAt, spansAt}
-use Rattle.rules.specs.Answers.{refusalNumber, accepted}
+use Rattle.rules.specs.Answers.{accepted}
 use Rattle.rules.specs.WellFormed.{wellFormed}
 use Rattle.rules.specs.Calls.{refuse, within, createAnswer, beginAnswer, closeAnswer, beginRoAnswer}
-use Rattle.rules.specs.Calls.{endRoAnswer, advanceLseAnswer, appendAnswer, clearAnswer, purgeAnswer}
+use Rattle.rules.specs.Calls.{advanceLseAnswer, appendAnswer, clearAnswer, purgeAnswer}
 use Rattle.rules.specs.declared.Manager.{Manager}
 use Rattle.rules.specs.declared.Refusal.{Refusal}
-use Rattle.rules.specs.declared.Refusal.the-variants.{UnknownPartition, NotOpen, ShortBitmap}
+use Rattle.rules.specs.declared.Refusal.the-variants.{UnknownPartition, NotOpen}
 use Rattle.rules.specs.declared.Refusal.the-variants.{OutOfRange, Unsound, Exhausted, TxnsFull}
 use Rattle.rules.specs.declared.Refusal.the-variants.{RowsFull, EntriesFull, Blocked}
 use Rattle.rules.specs.declared.Answer.{Answer}
-use Rattle.rules.specs.declared.Answer.the-variants.{Begun, BegunRo, Refused}
-
--- ---- a refusal
-
-pub refused : (r : Refusal) → accepted (Refused r) ≡ false
-refused UnknownPartition = refl
-refused NotOpen = refl
-refused ShortBitmap = refl
-refused OutOfRange = refl
-refused Unsound = refl
-refused Exhausted = refl
-refused TxnsFull = refl
-refused RowsFull = refl
-refused EntriesFull = refl
-refused Blocked = refl
+use Rattle.rules.specs.declared.Answer.the-variants.{Begun, BegunRo}
+use Rattle.rules.proofs.Laws.Answers.{refused}
 
 -- an accepted answer passed the test, and is the answer behind it
 pub record Passed (b : Bool) (a answer : Answer) : Type 0 where

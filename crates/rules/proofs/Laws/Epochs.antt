@@ -5,9 +5,9 @@
 -- Assumes nothing.
 use mathlib.Core.Path.{_≡_, refl, sym, _∙_}
 use mathlib.Core.Bool.{Bool, true, not, _||_}
-use mathlib.Core.List.{List, [], _∷_, _++_, map-append, List·Memᴰ·head as here, Memᴰ·map, Memᴰ·of-map}
+use mathlib.Core.List.{List, [], _∷_, _++_, map-append, Memᴰ·map, Memᴰ·of-map}
 use mathlib.Core.List.{Memᴰ·cast}
-use mathlib.Core.List.{Memᴰ·append-left, Memᴰ·append-right}
+use mathlib.Core.List.{Memᴰ·append-left}
 use Prim.Native.Nat.{ℕ, _≤_, _<_, max}
 use native.Mathlib.Omega.{arith}
 use lib.Dec.{ltb, leb}
@@ -88,15 +88,6 @@ begun-epochOk m j h = let f = epoch-facts m j h in let ts = writersOf m in let n
       low = f .low; high = (let l = f .high in omega arith);
       has = rw (writersOf-with (ts ++ (new ∷ [])) m, map-append (λ (t : RwTxn). t .epoch) ts (new ∷ []))
         (known-more (m .clock .lce) (epochs ts) (m .clock .ec ∷ []) j (f .has)) })
-
-pub begun-epochOk-new : (m : Manager) → managerOk m ≡ true → epochOk (begunManager m) (m .clock .ec) ≡ true
-unfolding begunManager
-begun-epochOk-new m ok = let k = manager-facts m ok .clock in let ts = writersOf m in
-    let new = begunTxn (m .clock .ec) ts in
-    epoch-ok (begunManager m) (m .clock .ec) (record {
-      low = k .ec-low; high = omega arith;
-      has = rw (writersOf-with (ts ++ (new ∷ [])) m, map-append (λ (t : RwTxn). t .epoch) ts (new ∷ []))
-        (or-right (leb (m .clock .ec) (m .clock .lce)) _ (in-elem (Memᴰ·append-right (epochs ts) (here refl)))) })
 
 -- ---- commit and roll back
 

@@ -3,20 +3,19 @@
 -- In order: Follows, making new, calls on the manager, roll back, append, clear and purge.
 -- Elsewhere: the manager's half (Laws/Tracks.antt), a partition's half (Laws/PartitionFollows.antt).
 -- Assumes nothing.
-use mathlib.Core.Path.{_≡_, refl, sym, _∙_, ap}
-use mathlib.Core.Bool.{Bool, true, false, not, _&&_, _||_, cond}
+use mathlib.Core.Path.{_≡_, refl, _∙_, ap}
+use mathlib.Core.Bool.{true, false, cond}
 use mathlib.Core.List.{List, [], _∷_, _++_, map}
 use Prim.Native.Nat.{ℕ, suc, _+_, _≤_, _<_}
 use native.Mathlib.Omega.{arith}
-use lib.ListN.{length, getD, set, getD-replicate, length-set}
+use lib.ListN.{length, set, getD-replicate, length-set}
 use lib.Seq.{getD-set-same, getD-set-other, set-getD}
-use lib.Dec.{eqb}
 use borrow.Author.Tests.{ne-eqb}
 use Rattle.lists.proofs.Laws.Bools.{split-eq, or-false}
 use Rattle.rules.specs.Limits.{lastEpoch, lastTicket, writersMax, readersMax, partitionsMax, rowsMax}
 use Rattle.rules.specs.Limits.{entriesMax}
 use Rattle.rules.specs.Manager.{hasOpen}
-use Rattle.rules.specs.Begin.{createdManager, begunManager}
+use Rattle.rules.specs.Begin.{begunManager}
 use Rattle.rules.specs.Close.{settled, committedManager, rolledBackManager}
 use Rattle.rules.specs.ReadOnly.{snapshotEpoch, begunRoManager, endedRoManager}
 use Rattle.rules.specs.Safe.{blocked, targetOf, advancedManager}
@@ -27,7 +26,7 @@ use Rattle.rules.specs.Store.{Store, managerOf, partitionAt, spansAt, wi
 use Rattle.rules.specs.Store.{createdStore, rolledBackBelow, purgedStore}
 use Rattle.rules.specs.WellFormed.{epochOk, lengthsOk}
 use Rattle.rules.specs.Ledger.{Line, row, delete, Ledger, newLedger, linesAt, withLines, withAdded}
-use Rattle.rules.specs.Ledger.{withBegun, withOpened, withWriters, withReaders, without}
+use Rattle.rules.specs.Ledger.{withBegun, withOpened, withOpenRw, withOpenRo, without}
 use Rattle.rules.specs.declared.Manager.{Manager}
 use Rattle.rules.proofs.Laws.Begin.{created-ok as createdManager-ok}
 use Rattle.rules.proofs.Laws.Epochs.{hasOpen-epochOk, purged-epochOk, begun-epochOk, committed-epochOk}
@@ -94,10 +93,10 @@ module _ {st : Store} {g : Ledger} (F : Follows st g) where
             j))))
 
   pub follows-commit : (i : ℕ) → hasOpen i (managerOf st) ≡ true
-      → Follows (withManager (committedManager i (managerOf st)) st) (withWriters (i ∷ g .committed) (without i (g
+      → Follows (withManager (committedManager i (managerOf st)) st) (withOpenRw (i ∷ g .committed) (without i (g
           .writers)) g)
   unfolding committedManager settled
-  follows-commit i o = let m = managerOf st in let g′ = withWriters (i ∷ g .committed) (without i (g .writers)) g in
+  follows-commit i o = let m = managerOf st in let g′ = withOpenRw (i ∷ g .committed) (without i (g .writers)) g in
       with-manager (committedManager i m) g′ (tracks-commit (F .tracks) i o) refl (committed-epochOk i m)
       (λ ss ls P. follows-alive P (m .clock .ec) (alive g′) (omega arith) (λ j q. alive-commit (F .tracks) i o j))
 
@@ -112,11 +111,11 @@ module _ {st : Store} {g : Ledger} (F : Follows st g) where
           last room) refl
       (λ j q. begunRo-epochOk e m j ∙ q) (λ ss ls P. P)
 
-  pub follows-end-ro : (t : ℕ) → Follows (withManager (endedRoManager t (managerOf st)) st) (withReaders (without t
+  pub follows-end-ro : (t : ℕ) → Follows (withManager (endedRoManager t (managerOf st)) st) (withOpenRo (without t
       (g .readers)) g)
   unfolding endedRoManager
   follows-end-ro t = let m = managerOf st in
-      with-manager (endedRoManager t m) (withReaders (without t (g .readers)) g) (tracks-end-ro (F .tracks) t) refl
+      with-manager (endedRoManager t m) (withOpenRo (without t (g .readers)) g) (tracks-end-ro (F .tracks) t) refl
       (λ j q. endedRo-epochOk t m j ∙ q) (λ ss ls P. P)
 
   pub follows-advance : (t : ℕ) → managerOf st .clock .lse ≤ targetOf t (managerOf st) → targetOf t (managerOf st)
@@ -132,7 +131,7 @@ module _ {st : Store} {g : Ledger} (F : Follows st g) where
 
   pub follows-rollback : (i : ℕ) → hasOpen i (managerOf st) ≡ true
       → Follows (withManager (rolledBackManager i (managerOf st)) (rolledBackBelow i partitionsMax st))
-        (withWriters (g .committed) (without i (g .writers)) g)
+        (withOpenRw (g .committed) (without i (g .writers)) g)
   unfolding rolledBackManager settled
   follows-rollback i o =
       let m = managerOf st in let n = rolledBackManager i m in let w = tracks-writer (F .tracks) i o in record {
@@ -142,7 +141,7 @@ module _ {st : Store} {g : Ledger} (F : Follows st g) where
         places = F .places;
         partition = λ p q. rw (spans-with-manager n p (rolledBackBelow i partitionsMax st), rollback-spans i st (F
             .ok) p q)
-          (follows-rolledBack (F .partition p q) i (alive (withWriters (g .committed) (without i (g .writers)) g))
+          (follows-rolledBack (F .partition p q) i (alive (withOpenRw (g .committed) (without i (g .writers)) g))
               (w .1)
             (λ j. alive-rollback (F .tracks) i o j)) }
 

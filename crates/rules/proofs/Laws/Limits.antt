@@ -1,6 +1,6 @@
 -- What proofs may use of the limits, without their values. Definitions: specs/Limits.antt.
 -- Assumes nothing.
-use Prim.Native.Nat.{ℕ, suc, _≤_, _<_, _^_}
+use Prim.Native.Nat.{suc, _<_, _^_}
 use native.Mathlib.Omega.{arith}
 use Rattle.rules.specs.Limits.{lastEpoch, lastTicket}
 

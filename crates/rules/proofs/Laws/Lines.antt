@@ -1,18 +1,18 @@
 -- Lines of a ledger's list by mark, and what is shown of them. 01 "The ledger of demand 3". Definitions:
 -- specs/Ledger.
 -- In order: markOf, AllLines, keepLines, anyDelete; laws of deletes; of keepLines and AllLines; shows of
--- readers that agree; shows of kept lines; shows of lines added at the end; the rows shown with their marks.
+-- readers that agree; shows of kept lines; shows of lines added at the end.
 -- Elsewhere: purge (LinesPurge.antt); All, anyOf and keepIf of any list (lists, All.antt).
 -- Assumes nothing.
 use mathlib.Core.Path.{_≡_, refl, sym, _∙_, ap}
-use mathlib.Core.Bool.{Bool, true, false, not, _&&_, cond}
+use mathlib.Core.Bool.{Bool, true, false, not, _&&_}
 use mathlib.Core.List.{List, [], _∷_, _++_, map, append-nil}
 use Prim.Native.Nat.{ℕ}
 use lib.Dec.{ltb, eqb}
-use Rattle.lists.specs.Lists.{gather, keepIf, anyOf}
-use Rattle.lists.proofs.Laws.All.{All, All-every, All-imp, All-append, All-keepIf, All-map, anyOf-ext}
+use Rattle.lists.specs.Lists.{keepIf, anyOf}
+use Rattle.lists.proofs.Laws.All.{All, All-every, All-imp, All-append, All-map, anyOf-ext}
 use Rattle.lists.proofs.Laws.All.{anyOf-none, keepIf-keepIf, keepIf-ext, keepIf-all}
-use Rattle.lists.proofs.Laws.Bools.{split, and-false, and-true, and-assoc, or-false}
+use Rattle.lists.proofs.Laws.Bools.{split, and-assoc, or-false}
 use Rattle.lists.proofs.Laws.Filter.{keepIf-append, anyOf-append, anyOf-keepIf}
 use Rattle.lists.proofs.Laws.Tests.{and-comm}
 use Rattle.rules.specs.Ledger.{Line, row, delete, deletes, concealed, showsIn, shows}
@@ -74,9 +74,6 @@ AllLines-append P xs ys a b = All-append P xs ys a b
 -- the rows of one batch
 pub AllLines-rows : (P : ℕ → Type 0) (i : ℕ) (ws : List ℕ) → P i → AllLines (λ x. P (markOf x)) (map (row i) ws)
 AllLines-rows P i ws h = All-map (λ x. P (markOf x)) (row i) (λ w. h) ws
-
-pub AllLines-keep : (P : Line → Type 0) (p : ℕ → Bool) (xs : List Line) → AllLines P xs → AllLines P (keepLines p xs)
-AllLines-keep P p xs a = All-keepIf P (λ x. p (markOf x)) xs a
 
 -- ---- readers that agree on each mark of the list are shown the same
 
@@ -216,45 +213,3 @@ module _ (s a : ℕ → Bool) where
     unfolding shows
     shows-own ls ws = shows-addedIn (map (row i) ws) (All-map (Unapplied a) (row i) (λ v. tt) ws) ls ls
         ∙ ap (λ zs. showsIn s a ls ls ++ zs) (shows-ownIn (ls ++ map (row i) ws) ws)
-
--- ---- the rows shown, with their marks
-
-unfoldable pub shownIn : (s a : ℕ → Bool) → List Line → List Line → List Line
-shownIn s a all [] = []
-shownIn s a all (row j w ∷ xs) =
-    cond (s j && not (concealed a all xs j)) (row j w ∷ shownIn s a all xs) (shownIn s a all xs)
-shownIn s a all (delete k ∷ xs) = shownIn s a all xs
-
-unfoldable pub shownLines : (s a : ℕ → Bool) → List Line → List Line
-shownLines s a xs = shownIn s a xs xs
-
-abbrev wordOf : Line → List ℕ
-wordOf (row j w) = w ∷ []
-wordOf (delete k) = []
-
--- the words of lines' rows
-abbrev pub rowWords : List Line → List ℕ
-rowWords xs = gather wordOf xs
-
-module _ (s a q : ℕ → Bool) where
-  shownIn-kept : (all xs : List Line) → rowWords (keepLines q (shownIn s a all xs)) ≡ showsIn (both s q) a all xs
-  unfolding shownIn showsIn
-  shownIn-kept all [] = refl
-  shownIn-kept all (row j w ∷ xs) = split (s j)
-    (λ t. rw t (split (concealed a all xs j)
-      (λ c. rw (c, and-false (q j)) (shownIn-kept all xs))
-      (λ n. rw (n, and-true (q j)) (split (q j)
-        (λ k. rw (k, shownIn-kept all xs))
-        (λ k. rw k (shownIn-kept all xs))))))
-    (λ f. rw f (shownIn-kept all xs))
-  shownIn-kept all (delete k ∷ xs) = shownIn-kept all xs
-
-  -- those whose mark passes are what a reader is shown that sees no other marks and applies the same deletes
-  pub shownLines-kept : (xs : List Line) → rowWords (keepLines q (shownLines s a xs)) ≡ shows (λ j. s j && q j) a xs
-  unfolding shownLines shows
-  shownLines-kept xs = shownIn-kept xs xs
-
-pub shownLines-words : (s a : ℕ → Bool) (xs : List Line) → rowWords (shownLines s a xs) ≡ shows s a xs
-shownLines-words s a xs = let ls = shownLines s a xs in
-    ap rowWords (sym (keep-all (λ j. true) ls (All-every _ (λ x. refl) ls)))
-    ∙ (shownLines-kept s a (λ j. true) xs ∙ shows-ext (λ j. s j && true) a s a (λ j. and-true (s j)) (λ k. refl) xs)

@@ -10,7 +10,7 @@ use native.Mathlib.Omega.{arith}
 use lib.Dec.{ltb, leb, eqb}
 use borrow.Author.Tests.{leb-true, leb-false, eqb-true, le-ltb, eq-eqb, ne-eqb, not-true}
 use Rattle.lists.specs.Lists.{gather, keepIf, anyOf}
-use Rattle.lists.proofs.Laws.All.{All, All-every, All-imp, All-append, All-map, All-gather, All-allOf}
+use Rattle.lists.proofs.Laws.All.{All-every, All-imp, All-append, All-map, All-gather, All-allOf}
 use Rattle.lists.proofs.Laws.All.{anyOf-ext, anyOf-none, keepIf-none}
 use Rattle.lists.proofs.Laws.Bools.{split, and-left, and-right, or-right, or-false}
 use Rattle.lists.proofs.Laws.Select.{anyOf-gather, gather-append}
@@ -69,11 +69,6 @@ span-marks P s h =
   where
     tail : AllLines (λ x. P (markOf x)) (deleteOf s)
     tail = split (isDelete s) (λ t. rw t (h, tt)) (λ f. rw f tt)
-
-pub lines-marks : (P : ℕ → Type 0) (ss : List Span) → All (λ s. P (s .epoch)) ss
-    → AllLines (λ x. P (markOf x)) (linesOf ss)
-unfolding linesOf
-lines-marks P ss h = All-gather (λ x. P (markOf x)) spanLines ss (All-imp _ _ (span-marks P) ss h)
 
 -- rows are no deletes
 pub anyDelete-rows : (q : ℕ → Bool) (j : ℕ) (ws : List ℕ) (xs : List Line)

@@ -262,20 +262,3 @@ module _ (l : ℕ) (p : ℕ → Bool) (low : (j : ℕ) → j ≤ l → p j ≡ t
   pub keep-purge : (xs : List Line) → purgeLines l (keepLines p xs) ≡ keepLines p (purgeLines l xs)
   unfolding purgeLines
   keep-purge xs = keep-purgeIn xs xs
-
--- ---- the marks that a purge leaves
-
-module _ (P : ℕ → Type 0) (l : ℕ) (raised : (j : ℕ) → P j → P (max j l)) where
-  AllLines-purgeIn : (all xs : List Line) → AllLines (λ x. P (markOf x)) xs
-      → AllLines (λ x. P (markOf x)) (purgeLinesIn l all xs)
-  unfolding purgeLinesIn
-  AllLines-purgeIn all [] h = tt
-  AllLines-purgeIn all (row j w ∷ xs) h = let ih = AllLines-purgeIn all xs (h .1) in
-      split (concealed (upTo l) all xs j) (λ t. rw t ih) (λ f. rw f (raised j (h .0), ih))
-  AllLines-purgeIn all (delete k ∷ xs) h = let ih = AllLines-purgeIn all xs (h .1) in
-      split (leb k l) (λ t. rw t ih) (λ f. rw f (h .0, ih))
-
-  pub AllLines-purge : (xs : List Line) → AllLines (λ x. P (markOf x)) xs
-      → AllLines (λ x. P (markOf x)) (purgeLines l xs)
-  unfolding purgeLines
-  AllLines-purge xs h = AllLines-purgeIn xs xs h

@@ -1,7 +1,7 @@
 -- The part that purge returns: the rows in force of the store after it, and nothing where it is refused.
 -- In order: refused, accepted. Definition: specs/Step.antt.
 -- Assumes nothing.
-use mathlib.Core.Path.{_≡_, refl}
+use mathlib.Core.Path.{_≡_}
 use mathlib.Core.Bool.{false}
 use mathlib.Core.List.{List, []}
 use Prim.Native.Nat.{ℕ, _*_, _≤_, _<_}
@@ -14,36 +14,19 @@ use Rattle.rules.specs.Limits.{partitionsMax, rowsMax}
 use Rattle.rules.specs.Span.{Span, wordsOf}
 use Rattle.rules.specs.Rewrite.{purgedIn, purged, skips}
 use Rattle.rules.specs.Store.{Store, managerOf, partitionAt, rowsAt, spansAt, laidInSpare, purgedStore}
-use Rattle.rules.specs.Answers.{accepted, livePart}
+use Rattle.rules.specs.Answers.{accepted}
 use Rattle.rules.specs.Calls.{purgeAnswer}
 use Rattle.rules.specs.Step.{purge, step}
-use Rattle.rules.specs.declared.Answer.{Answer}
-use Rattle.rules.specs.declared.Answer.the-variants.{Created, Begun, Appended, Cleared, Closed, BegunRo}
-use Rattle.rules.specs.declared.Answer.the-variants.{EndedRo}
-use Rattle.rules.specs.declared.Answer.the-variants.{Scanned, AdvancedLse, Rewritten, Skipped, Refused}
+use Rattle.rules.proofs.Laws.Answers.{refused-part}
 use Rattle.rules.proofs.Laws.Rewrite.{words-joined, words-purgedIn}
 use Rattle.rules.proofs.Laws.WellFormed.{StoreOk, store-ok}
 use Rattle.rules.proofs.Laws.Laid.{partitionAt-laid}
 
 -- ---- refused
 
-pub livePart-refused : (old new : List ℕ) (a : Answer) → accepted a ≡ false → livePart old new a ≡ []
-livePart-refused old new Created h = refl
-livePart-refused old new (Begun epoch) h = refl
-livePart-refused old new (Appended rows) h = refl
-livePart-refused old new (Cleared entries) h = refl
-livePart-refused old new (Closed lce) h = refl
-livePart-refused old new (BegunRo ticket) h = refl
-livePart-refused old new (EndedRo left) h = refl
-livePart-refused old new (Scanned rows ones) h = refl
-livePart-refused old new (AdvancedLse lse) h = refl
-livePart-refused old new (Rewritten rows) h = cc
-livePart-refused old new (Skipped rows) h = cc
-livePart-refused old new (Refused r) h = refl
-
 pub purge-live-refused : (p : ℕ) (st : Store) → accepted (purgeAnswer p st) ≡ false → step (purge p) st .live ≡ []
 unfolding step
-purge-live-refused p st h = livePart-refused _ _ (purgeAnswer p st) h
+purge-live-refused p st h = refused-part _ _ (purgeAnswer p st) h
 
 -- ---- accepted
 

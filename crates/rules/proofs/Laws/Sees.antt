@@ -27,9 +27,6 @@ module _ (i : ℕ) (deps : List ℕ) (j : ℕ) where
   unfolding seesRw
   sees-before h = rw (ne-eqb j i (λ e. omega arith), lt-ltb j i h)
 
-  pub sees-dep : j < i → elem j deps ≡ true → seesRw i deps j ≡ false
-  sees-dep h t = rw (sees-before h, t)
-
   pub sees-earlier : j < i → elem j deps ≡ false → seesRw i deps j ≡ true
   sees-earlier h f = rw (sees-before h, f)
 
@@ -41,6 +38,3 @@ module _ (i : ℕ) (deps : List ℕ) (j : ℕ) where
   pub applies-later : i ≤ j → appliesRw i deps j ≡ false
   unfolding appliesRw
   applies-later h = rw (le-ltb j i h) (and-false (seesRw i deps j))
-
-pub applies-own : (i : ℕ) (deps : List ℕ) → appliesRw i deps i ≡ false
-applies-own i deps = applies-later i deps i (omega arith)

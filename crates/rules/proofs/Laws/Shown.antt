@@ -20,14 +20,14 @@ use Rattle.rules.specs.Span.{Span, wordsOf}
 use Rattle.rules.specs.Rewrite.{purged, skips}
 use Rattle.rules.specs.Bitmap.{bytesFor}
 use Rattle.rules.specs.Store.{Store, managerOf, partitionAt, spansAt, withManager, purgedStore}
-use Rattle.rules.specs.Answers.{replyOf, accepted}
+use Rattle.rules.specs.Answers.{replyOf, secondValue, accepted}
 use Rattle.rules.specs.WellFormed.{wellFormed}
 use Rattle.rules.specs.Calls.{refuse, isReader, seesOf, appliesOf, flagsAt, scanAnswer}
 use Rattle.rules.specs.Calls.{advanceLseAnswer}
 use Rattle.rules.specs.Calls.{purgeAnswer}
 use Rattle.rules.specs.Step.{scan, advanceLse, purge, areaRows, step}
 use Rattle.rules.specs.Ledger.{shows}
-use Rattle.rules.specs.Claim.{scanned}
+use Rattle.rules.specs.Claim.{wordsScanned}
 use Rattle.rules.specs.declared.Manager.{Manager}
 use Rattle.rules.specs.declared.Reader.{Reader}
 use Rattle.rules.specs.declared.Reader.the-variants.{Rw, Ro}
@@ -77,11 +77,11 @@ module _ (st : Store) (ok : StoreOk st) (r : Reader) (p : ℕ) (h : p < partitio
     scan-admits = rw answer (split (isReader r (managerOf st)) (λ t. rw t) (λ f. rw f))
 
     pub scan-counts : isReader r (managerOf st) ≡ true
-        → replyOf (step (scan r p lent) st .answer) .second ≡ length (spansShow r p st)
+        → secondValue (replyOf (step (scan r p lent) st .answer)) ≡ length (spansShow r p st)
     unfolding step flagsAt
     scan-counts o = let m = managerOf st in rw (answer-open o) (ones-flags (seesOf r m) (appliesOf r m) (spansAt p st))
 
-    pub scan-spans : isReader r (managerOf st) ≡ true → scanned r p lent st ≡ spansShow r p st
+    pub scan-spans : isReader r (managerOf st) ≡ true → wordsScanned r p lent st ≡ spansShow r p st
     unfolding step flagsAt
     scan-spans o = let m = managerOf st in
         rw (answer-open o, words-at) (scan-shows (seesOf r m) (appliesOf r m) (spansAt p st) lent)
@@ -91,7 +91,7 @@ module _ (st : Store) (ok : StoreOk st) (r : Reader) (p : ℕ) (h : p < partitio
 -- a scan of st′ beside one of st
 pub record ScanSame (r : Reader) (p : ℕ) (lent : List ℕ) (st st′ : Store) : Type 0 where
   pub admitted : accepted (step (scan r p lent) st′ .answer) ≡ true
-  pub shown : scanned r p lent st′ ≡ scanned r p lent st
+  pub shown : wordsScanned r p lent st′ ≡ wordsScanned r p lent st
 
 module _ (r : Reader) (p : ℕ) (h : p < partitionsMax) (lent : List ℕ)
     (st st′ : Store) (ok : StoreOk st) (ok′ : StoreOk st′)

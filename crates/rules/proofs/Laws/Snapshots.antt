@@ -1,6 +1,6 @@
 -- The snapshot of an open reader in the ledger: it stays as others open and close, and of the open
 -- transactions only itself is in it.
--- In order: isLoad and isPage, a reader's marks, Keeps, what each call keeps, the marks of an open
+-- In order: a reader's marks, Keeps, what each call keeps, the marks of an open
 -- transaction.
 -- Elsewhere: what it is shown then (Laws/Stays.antt). Definitions: specs/Ledger.antt.
 -- Assumes nothing.
@@ -15,9 +15,10 @@ use Rattle.lists.specs.Lists.{anyOf, firstOf, elem}
 use Rattle.lists.proofs.Laws.Bools.{split, and-false, or-right}
 use Rattle.lists.proofs.Laws.Filter.{first-in, anyOf-without, firstOf-without}
 use Rattle.rules.specs.Manager.{noRo, hasOpen, hasTicket, writersOf, readersOf}
-use Rattle.rules.specs.Ledger.{Line, Snapshot, Ledger, named, without, noSnapshot, marksOf, hasWriter}
+use Rattle.rules.specs.Ledger.{Line, Snapshot, Ledger, named, without, noSnapshot, marksOf, hasOpenRw}
 use Rattle.rules.specs.Ledger.{withLines}
-use Rattle.rules.specs.Ledger.{withBegun, withOpened, withWriters, withReaders}
+use Rattle.rules.specs.Ledger.{withBegun, withOpened, withOpenRw, withOpenRo}
+use Rattle.rules.specs.Promises.{isLoad, isPage}
 use Rattle.rules.specs.Claim.{isOpenIn}
 use Rattle.rules.specs.declared.Manager.{Manager}
 use Rattle.rules.specs.declared.Reader.{Reader}
@@ -28,15 +29,6 @@ use Rattle.rules.proofs.Laws.Sees.{sees-own, sees-later}
 use Rattle.rules.proofs.Laws.Tracks.{alive, depsIn, epochIn, Tracks, marksOf-rest, tracks-writer}
 use Rattle.rules.proofs.Laws.TracksClose.{named-keyed, unseen}
 use Rattle.rules.proofs.Laws.TracksReadOnly.{ticket-below}
-
--- r is the read-write transaction j (01: load), r is the read-only transaction u (01: page)
-abbrev pub isLoad : ℕ → Reader → Bool
-isLoad j (Rw i) = eqb j i
-isLoad j (Ro t) = false
-
-abbrev pub isPage : ℕ → Reader → Bool
-isPage u (Rw i) = false
-isPage u (Ro t) = eqb u t
 
 -- ---- a reader's marks, and the deletes that it applies by them
 
@@ -76,25 +68,28 @@ keeps-without n k ss o f = let ne : n ≡ k → ⊥ = λ e. eqb-false k n f (sym
   opened = anyOf-without named named-keyed k n ss ∙ rw (o, ne-eqb n k ne);
   marks = ap (λ (s : Snapshot). s .marks) (firstOf-without named named-keyed noSnapshot k n ss ne) }
 
+pub keeps-same : (g : Ledger) (r : Reader) → isOpenIn r g ≡ true → Keeps r g g
+keeps-same g r o = record { opened = o; marks = refl }
+
 -- the lines do not matter
 pub keeps-lines : (ls : List (List Line)) (g : Ledger) (r : Reader) → isOpenIn r g ≡ true → Keeps r g (withLines ls g)
 keeps-lines ls g (Rw i) o = record { opened = o; marks = refl }
 keeps-lines ls g (Ro t) o = record { opened = o; marks = refl }
 
 pub keeps-close : (g : Ledger) (cs : List ℕ) (j : ℕ) (r : Reader) → isOpenIn r g ≡ true → isLoad j r ≡ false
-    → Keeps r g (withWriters cs (without j (g .writers)) g)
-keeps-close g cs j (Rw i) o f = keeps-load i g (withWriters cs (without j (g .writers)) g)
+    → Keeps r g (withOpenRw cs (without j (g .writers)) g)
+keeps-close g cs j (Rw i) o f = keeps-load i g (withOpenRw cs (without j (g .writers)) g)
     (keeps-without i j (g .writers) o f)
 keeps-close g cs j (Ro t) o f = record { opened = o; marks = refl }
 
 pub keeps-end-ro : (g : Ledger) (u : ℕ) (r : Reader) → isOpenIn r g ≡ true → isPage u r ≡ false
-    → Keeps r g (withReaders (without u (g .readers)) g)
+    → Keeps r g (withOpenRo (without u (g .readers)) g)
 keeps-end-ro g u (Rw i) o f = record { opened = o; marks = refl }
-keeps-end-ro g u (Ro t) o f = keeps-page t g (withReaders (without u (g .readers)) g)
+keeps-end-ro g u (Ro t) o f = keeps-page t g (withOpenRo (without u (g .readers)) g)
     (keeps-without t u (g .readers) o f)
 
 module _ {m : Manager} {g : Ledger} (T : Tracks m g) where
-  open-below : (i : ℕ) → hasWriter i g ≡ true → (m .clock .lce < i) × (i < m .clock .ec)
+  open-below : (i : ℕ) → hasOpenRw i g ≡ true → (m .clock .lce < i) × (i < m .clock .ec)
   open-below i o = hasOpen-range m (T .ok) i (sym (T .writers .same i) ∙ o)
 
   pub keeps-begin : (r : Reader) → isOpenIn r g ≡ true → Keeps r g (withBegun (m .clock .ec) g)

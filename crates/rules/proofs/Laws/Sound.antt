@@ -1,67 +1,59 @@
 -- Every call keeps a sound store sound and answers no 5 on it; a refused call changes nothing. 01 "Refusals".
 -- In order: sound-step, the test, a list of calls, no 5, target 0, refused calls, a rewrite's size.
 -- Definition: specs/Step.antt.
--- Elsewhere: that each change keeps the store sound (Laws/Store.antt), and the manager (Begin, Close,
--- ReadOnly, Safe).
+-- Elsewhere: the calls on the manager (Laws/ManagerCalls.antt), that each change of a partition keeps the store sound
+-- (Laws/Store.antt).
 -- Assumes nothing.
-use mathlib.Core.Path.{_≡_, refl, sym, _∙_}
+use mathlib.Core.Path.{_≡_, refl}
 use mathlib.Core.Bool.{Bool, true, false, not, cond}
 use mathlib.Core.List.{List, [], _∷_}
-use Prim.Native.Nat.{ℕ, suc, _-_, _≤_, _<_}
+use Prim.Native.Nat.{ℕ, _-_, _≤_, _<_}
 use native.Mathlib.Omega.{arith}
 use lib.ListN.{length}
 use lib.Dec.{ltb, leb, eqb}
 use borrow.Author.Tests.{eqb-false, le-leb}
 use Rattle.lists.proofs.Laws.Bools.{split}
 use Rattle.lists.proofs.Laws.Filter.{length-keepIf}
-use Rattle.lists.proofs.Laws.Tests.{no-proof}
 use Rattle.lists.specs.Lists.{keepIf}
-use Rattle.rules.specs.Limits.{lastEpoch, lastTicket, writersMax, readersMax, partitionsMax, rowsMax}
+use Rattle.rules.specs.Limits.{lastEpoch, partitionsMax, rowsMax}
 use Rattle.rules.specs.Limits.{entriesMax}
-use Rattle.rules.specs.Manager.{hasOpen, hasReader}
-use Rattle.rules.specs.Begin.{begunManager}
-use Rattle.rules.specs.Close.{committedManager, rolledBackManager}
-use Rattle.rules.specs.ReadOnly.{snapshotEpoch, begunRoManager, endedRoManager}
-use Rattle.rules.specs.Safe.{blocked, targetOf, advancedManager}
+use Rattle.rules.specs.Manager.{hasOpen}
+use Rattle.rules.specs.Close.{rolledBackManager}
+use Rattle.rules.specs.Safe.{targetOf}
 use Rattle.rules.specs.Span.{Span, wordsOf}
 use Rattle.rules.specs.Append.{appended}
 use Rattle.rules.specs.Rewrite.{rolledBack, purgedIn, purged, skips}
 use Rattle.rules.specs.Bitmap.{bytesFor}
 use Rattle.rules.specs.Store.{Store, managerOf, partitionAt, spansAt}
-use Rattle.rules.specs.Answers.{refusalNumber, replyOf, accepted}
+use Rattle.rules.specs.Answers.{replyOf, accepted}
 use Rattle.rules.specs.WellFormed.{wellFormed, lengthsOk}
-use Rattle.rules.specs.Calls.{refuse, within, isReader, createAnswer, beginAnswer, closeAnswer}
-use Rattle.rules.specs.Calls.{beginRoAnswer}
-use Rattle.rules.specs.Calls.{endRoAnswer, advanceLseAnswer, appendAnswer, clearAnswer, purgeAnswer}
+use Rattle.rules.specs.Calls.{refuse, within, isReader, createAnswer, closeAnswer, managerAnswer}
+use Rattle.rules.specs.Calls.{advanceLseAnswer, appendAnswer, clearAnswer, purgeAnswer}
 use Rattle.rules.specs.Calls.{scanAnswer}
-use Rattle.rules.specs.Step.{Call, create, begin, append, clear, commit, rollback, beginRo, endRo, scan}
-use Rattle.rules.specs.Step.{advanceLse, purge, step, run}
-use Rattle.rules.specs.declared.Manager.{Manager}
-use Rattle.rules.specs.declared.Refusal.{Refusal}
+use Rattle.rules.specs.Step.{Call, create, manage, append, clear, rollback, scan, advanceLse, purge}
+use Rattle.rules.specs.Step.{onScan, step, run}
+use Rattle.rules.specs.declared.Reader.{Reader}
 use Rattle.rules.specs.declared.Refusal.the-variants.{UnknownPartition, NotOpen, ShortBitmap}
 use Rattle.rules.specs.declared.Refusal.the-variants.{OutOfRange}
-use Rattle.rules.specs.declared.Refusal.the-variants.{Exhausted, TxnsFull, RowsFull, EntriesFull}
-use Rattle.rules.specs.declared.Refusal.the-variants.{Blocked}
+use Rattle.rules.specs.declared.Refusal.the-variants.{RowsFull, EntriesFull}
 use Rattle.rules.specs.declared.Answer.{Answer}
-use Rattle.rules.specs.declared.Answer.the-variants.{Created, Begun, Appended, Cleared, Closed, BegunRo}
-use Rattle.rules.specs.declared.Answer.the-variants.{EndedRo}
-use Rattle.rules.specs.declared.Answer.the-variants.{Scanned, AdvancedLse, Rewritten, Skipped, Refused}
-use Rattle.rules.proofs.Laws.Begin.{begun-ok, created-ok as createdManager-ok}
-use Rattle.rules.proofs.Laws.Close.{committed-ok, rolledBack-ok}
-use Rattle.rules.proofs.Laws.ReadOnly.{begunRo-ok, endedRo-ok}
-use Rattle.rules.proofs.Laws.Safe.{advanced-ok, target-zero}
-use Rattle.rules.proofs.Laws.Epochs.{hasOpen-epochOk, purged-epochOk, begun-epochOk, committed-epochOk}
-use Rattle.rules.proofs.Laws.Epochs.{rolledBack-epochOk, begunRo-epochOk, endedRo-epochOk}
-use Rattle.rules.proofs.Laws.Epochs.{advanced-epochOk}
+use Rattle.rules.proofs.Laws.Begin.{created-ok as createdManager-ok}
+use Rattle.rules.proofs.Laws.Close.{rolledBack-ok}
+use Rattle.rules.proofs.Laws.Safe.{target-zero}
+use Rattle.rules.proofs.Laws.Epochs.{hasOpen-epochOk, purged-epochOk}
+use Rattle.rules.proofs.Laws.Epochs.{rolledBack-epochOk}
 use Rattle.rules.proofs.Laws.Rewrite.{words-joined, length-joined, words-keepIf, length-purgedIn}
 use Rattle.rules.proofs.Laws.Live.{words-purged, purge-live-refused}
 use Rattle.rules.proofs.Laws.WellFormed.{StoreOk, store-facts, lengths-ok, store-ok}
-use Rattle.rules.proofs.Laws.Store.{with-manager-ok, created-ok, append-changed, clear-changed}
+use Rattle.rules.proofs.Laws.Store.{created-ok, append-changed, clear-changed}
 use Rattle.rules.proofs.Laws.Store.{purge-changed}
 use Rattle.rules.proofs.Laws.Store.{rollback-ok}
-use Rattle.rules.proofs.Laws.Calls.{create-passed, begin-passed, begin-ro-passed, advance-passed}
+use Rattle.rules.proofs.Laws.Calls.{create-passed}
 use Rattle.rules.proofs.Laws.Calls.{append-passed}
 use Rattle.rules.proofs.Laws.Calls.{clear-passed, purge-passed}
+use Rattle.rules.proofs.Laws.Answers.{refused-values}
+use Rattle.rules.proofs.Laws.NotUnsound.{Not5, ends, past, either-way}
+use Rattle.rules.proofs.Laws.ManagerCalls.{manager-not-5, manager-sound}
 
 -- ---- a call
 
@@ -96,28 +88,13 @@ pub sound-step : (c : Call) (st : Store) → StoreOk st → StoreOk (step c st .
 unfolding step
 sound-step (create s) st ok = split (accepted (createAnswer s (lengthsOk st)))
     (λ t. sound-created s st t) (λ f. rw f ok)
-sound-step begin st ok = let m = managerOf st in either (beginAnswer (wellFormed st) m) ok (λ t.
-  let k = begin-passed (wellFormed st) m t in
-  with-manager-ok (begunManager m) st ok (begun-ok m (ok .manager) (k .last) (k .room)) (begun-epochOk m))
+sound-step (manage c) st ok = either (managerAnswer c (wellFormed st) (managerOf st)) ok (manager-sound c st ok)
 sound-step (append i p batch) st ok = sound-append st ok i p batch
 sound-step (clear i p) st ok = sound-clear st ok i p
-sound-step (commit i) st ok = let m = managerOf st in let n = committedManager i m in
-    either (closeAnswer i (wellFormed st) m n) ok
-    (λ t. with-manager-ok n st ok (committed-ok i m (ok .manager)) (committed-epochOk i m))
 sound-step (rollback i) st ok = let m = managerOf st in let n = rolledBackManager i m in
     either (closeAnswer i (wellFormed st) m n) ok
     (λ t. rollback-ok i st ok n (rolledBack-ok i m (ok .manager)) (λ j q ne. rolledBack-epochOk i m j ne q))
-sound-step (beginRo e) st ok = let m = managerOf st in either (beginRoAnswer e (wellFormed st) m) ok (λ t.
-  let k = begin-ro-passed e (wellFormed st) m t in
-  with-manager-ok (begunRoManager e m) st ok
-    (begunRo-ok e m (ok .manager) (k .low) (k .high) (k .last) (k .room)) (λ j q. begunRo-epochOk e m j ∙ q))
-sound-step (endRo t) st ok = let m = managerOf st in either (endRoAnswer t (wellFormed st) m) ok
-    (λ _. with-manager-ok (endedRoManager t m) st ok (endedRo-ok t m (ok .manager)) (λ j q. endedRo-epochOk t m j ∙ q))
 sound-step (scan r p lent) st ok = ok
-sound-step (advanceLse n) st ok = let m = managerOf st in either (advanceLseAnswer n (wellFormed st) m) ok (λ t.
-  let k = advance-passed n (wellFormed st) m t in
-  with-manager-ok (advancedManager n m) st ok (advanced-ok n m (ok .manager) (k .high) (k .free))
-    (λ j q. advanced-epochOk n m j ∙ q))
 sound-step (purge p) st ok = either (purgeAnswer p st) ok
     (λ t. purge-changed st ok p (purge-passed p st t .1) (purged-epochOk (managerOf st) (ok .manager)) .sound)
 
@@ -141,63 +118,27 @@ sound-run (c ∷ cs) st ok = sound-run cs (step c st .store) (sound-step c st ok
 
 -- ---- no call on a sound store answers 5
 
-record Not5 (a : Answer) : Type 0 where
-  number : eqb (replyOf a .number) 5 ≡ false
-
--- the last of the answer's cases
-ends : (a : Answer) → eqb (replyOf a .number) 5 ≡ false → Not5 a
-ends a h = record { number = h }
-
--- one refusal more in front
-past : (r : Refusal) (test : Bool) (a : Answer) → eqb (refusalNumber r) 5 ≡ false → Not5 a → Not5 (refuse r test a)
-past r true a h k = record { number = h }
-past r false a h k = k
-
-either-way : (test : Bool) (a b : Answer) → Not5 a → Not5 b → Not5 (cond test a b)
-either-way true a b h k = h
-either-way false a b h k = k
-
 module _ (st : Store) (ok : StoreOk st) where
   write-not-5 : (i p : ℕ) (a : Answer) → Not5 a
       → Not5 (refuse UnknownPartition (leb partitionsMax p) (refuse NotOpen (not (hasOpen i (managerOf st))) a))
   write-not-5 i p a k = past UnknownPartition (leb partitionsMax p) _ refl
       (past NotOpen (not (hasOpen i (managerOf st))) a refl k)
 
-  close-not-5 : (i : ℕ) (next : Manager) → Not5 (closeAnswer i (wellFormed st) (managerOf st) next)
-  unfolding closeAnswer
-  close-not-5 i next = rw (store-ok st ok) (past NotOpen (not (hasOpen i (managerOf st))) _ refl (ends _ refl))
-
-  lse-not-5 : (n : ℕ) → Not5 (advanceLseAnswer n (wellFormed st) (managerOf st))
-  unfolding advanceLseAnswer
-  lse-not-5 n = let m = managerOf st in let t = targetOf n m in rw (store-ok st ok)
-    (past OutOfRange (not (within (m .clock .lse) (m .clock .lce) t)) _ refl
-      (past Blocked (blocked t m) _ refl (ends _ refl)))
-
 answers-not-5 : (c : Call) (st : Store) → StoreOk st → Not5 (step c st .answer)
-unfolding step createAnswer beginAnswer beginRoAnswer endRoAnswer appendAnswer clearAnswer purgeAnswer
-    scanAnswer
+unfolding step createAnswer closeAnswer appendAnswer clearAnswer purgeAnswer scanAnswer
 answers-not-5 (create s) st ok = rw (lengths-ok st ok)
   (past OutOfRange (not (within 1 lastEpoch s)) _ refl (ends _ refl))
-answers-not-5 begin st ok = let m = managerOf st in rw (store-ok st ok)
-  (past Exhausted (eqb (m .clock .ec) (suc lastEpoch)) _ refl
-    (past TxnsFull (leb writersMax (m .writers .count)) _ refl (ends _ refl)))
+answers-not-5 (manage c) st ok = rw (store-ok st ok) (manager-not-5 c (managerOf st))
 answers-not-5 (append i p batch) st ok = rw (store-ok st ok) (write-not-5 st ok i p _
   (past RowsFull (ltb (rowsMax - partitionAt p st .rows) (length batch)) _ refl
     (past EntriesFull (ltb entriesMax (length (appended i batch (spansAt p st)))) _ refl (ends _ refl))))
 answers-not-5 (clear i p) st ok = rw (store-ok st ok)
   (write-not-5 st ok i p _ (past EntriesFull (leb entriesMax (partitionAt p st .entries)) _ refl (ends _ refl)))
-answers-not-5 (commit i) st ok = close-not-5 st ok i (committedManager i (managerOf st))
-answers-not-5 (rollback i) st ok = close-not-5 st ok i (rolledBackManager i (managerOf st))
-answers-not-5 (beginRo e) st ok = let m = managerOf st in rw (store-ok st ok)
-  (past OutOfRange (not (within (m .clock .lse) (m .clock .lce) (snapshotEpoch e m))) _ refl
-    (past Exhausted (eqb (m .readers .next) (suc lastTicket)) _ refl
-      (past TxnsFull (leb readersMax (m .readers .count)) _ refl (ends _ refl))))
-answers-not-5 (endRo t) st ok = rw (store-ok st ok)
-  (past NotOpen (not (hasReader t (managerOf st))) _ refl (ends _ refl))
+answers-not-5 (rollback i) st ok = rw (store-ok st ok)
+  (past NotOpen (not (hasOpen i (managerOf st))) _ refl (ends _ refl))
 answers-not-5 (scan r p lent) st ok = rw (store-ok st ok)
   (past UnknownPartition (leb partitionsMax p) _ refl (past NotOpen (not (isReader r (managerOf st))) _ refl
     (past ShortBitmap (ltb (length lent) (bytesFor (partitionAt p st .rows))) _ refl (ends _ refl))))
-answers-not-5 (advanceLse n) st ok = lse-not-5 st ok n
 answers-not-5 (purge p) st ok = rw (store-ok st ok) (past UnknownPartition (leb partitionsMax p) _ refl
   (either-way (skips (managerOf st .clock .lse) (spansAt p st)) _ _ (ends _ refl) (ends _ refl)))
 
@@ -212,41 +153,16 @@ target-zero-accepted st ok = let m = managerOf st in let t = targetOf 0 m in let
 
 -- ---- a refused call
 
-refused-values : (a : Answer) → accepted a ≡ false → (replyOf a .value ≡ 0) × (replyOf a .second ≡ 0)
-refused-values Created h = (refl, refl)
-refused-values (Begun epoch) h = no-proof (sym h)
-refused-values (Appended rows) h = no-proof (sym h)
-refused-values (Cleared entries) h = no-proof (sym h)
-refused-values (Closed lce) h = no-proof (sym h)
-refused-values (BegunRo ticket) h = no-proof (sym h)
-refused-values (EndedRo left) h = no-proof (sym h)
-refused-values (Scanned rows ones) h = no-proof (sym h)
-refused-values (AdvancedLse lse) h = no-proof (sym h)
-refused-values (Rewritten rows) h = no-proof (sym h)
-refused-values (Skipped rows) h = no-proof (sym h)
-refused-values (Refused r) h = (refl, refl)
-
 -- the bitmap that a call was lent
 abbrev pub lentTo : Call → List ℕ
-lentTo (create s) = []
-lentTo begin = []
-lentTo (append i p batch) = []
-lentTo (clear i p) = []
-lentTo (commit i) = []
-lentTo (rollback i) = []
-lentTo (beginRo e) = []
-lentTo (endRo t) = []
-lentTo (scan r p lent) = lent
-lentTo (advanceLse t) = []
-lentTo (purge p) = []
+lentTo c = onScan c (λ (r : Reader) (p : ℕ) (lent : List ℕ). lent) []
 
--- 01: a refusal's other answers are 0 and nothing changes
+-- 01: a refusal has no other answers, and nothing changes
 pub record RefusedSame (c : Call) (st : Store) : Type 0 where
   pub store : step c st .store ≡ st
   pub bitmap : step c st .bitmap ≡ lentTo c
   pub live : step c st .live ≡ []
-  pub value : replyOf (step c st .answer) .value ≡ 0
-  pub second : replyOf (step c st .answer) .second ≡ 0
+  pub values : replyOf (step c st .answer) .values ≡ []
 
 record Same (c : Call) (st : Store) : Type 0 where
   store : step c st .store ≡ st
@@ -256,20 +172,16 @@ record Same (c : Call) (st : Store) : Type 0 where
 same-of : (c : Call) (st : Store) → accepted (step c st .answer) ≡ false → Same c st
 unfolding step
 same-of (create s) st f = record { store = rw f; bitmap = refl; live = refl }
-same-of begin st f = record { store = rw f; bitmap = refl; live = refl }
+same-of (manage c) st f = record { store = rw f; bitmap = refl; live = refl }
 same-of (append i p batch) st f = record { store = rw f; bitmap = refl; live = refl }
 same-of (clear i p) st f = record { store = rw f; bitmap = refl; live = refl }
-same-of (commit i) st f = record { store = rw f; bitmap = refl; live = refl }
 same-of (rollback i) st f = record { store = rw f; bitmap = refl; live = refl }
-same-of (beginRo e) st f = record { store = rw f; bitmap = refl; live = refl }
-same-of (endRo t) st f = record { store = rw f; bitmap = refl; live = refl }
 same-of (scan r p lent) st f = record { store = refl; bitmap = rw f; live = refl }
-same-of (advanceLse t) st f = record { store = rw f; bitmap = refl; live = refl }
 same-of (purge p) st f = record { store = rw f; bitmap = refl; live = purge-live-refused p st f }
 
 pub refused-same : (c : Call) (st : Store) → accepted (step c st .answer) ≡ false → RefusedSame c st
-refused-same c st f = let k = same-of c st f in let v = refused-values (step c st .answer) f in
-    record { store = k .store; bitmap = k .bitmap; live = k .live; value = v .0; second = v .1 }
+refused-same c st f = let k = same-of c st f in
+    record { store = k .store; bitmap = k .bitmap; live = k .live; values = refused-values (step c st .answer) f }
 
 -- ---- a rewrite fits: no more rows and entries than the spans ss had, and those are at most what an area
 -- holds

@@ -1,10 +1,10 @@
 -- What the calls of others leave to an open reader: it stays open, and is shown what it was shown and its own
 -- new rows.
--- In order: spares and rowsOf, Stays, lines at the end, append and clear, each call.
--- Elsewhere: its snapshot (Laws/Snapshots.antt), lists of calls (Corollaries.antt).
+-- In order: Stays, lines at the end, append and clear, each call.
+-- Elsewhere: its snapshot (Laws/Snapshots.antt), lists of calls (Promises.antt).
 -- Assumes nothing.
 use mathlib.Core.Path.{_≡_, refl, sym, _∙_, ap}
-use mathlib.Core.Bool.{Bool, true, false, not, _&&_, cond}
+use mathlib.Core.Bool.{true, false, _&&_, cond}
 use mathlib.Core.List.{List, [], _∷_, _++_, map, append-nil, append-assoc}
 use Prim.Native.Nat.{ℕ, _<_}
 use native.Mathlib.Omega.{arith}
@@ -15,75 +15,41 @@ use borrow.Author.Tests.{eq-eqb, ne-eqb, not-true}
 use Rattle.lists.specs.Lists.{elem}
 use Rattle.lists.proofs.Laws.All.{All-map}
 use Rattle.lists.proofs.Laws.Bools.{split, split-eq, and-false, and-true}
-use Rattle.rules.specs.Limits.{partitionsMax, lastEpoch}
+use Rattle.rules.specs.Limits.{partitionsMax}
 use Rattle.rules.specs.Manager.{hasOpen}
-use Rattle.rules.specs.Close.{committedManager, rolledBackManager}
+use Rattle.rules.specs.Close.{rolledBackManager}
 use Rattle.rules.specs.Store.{Store, managerOf}
 use Rattle.rules.specs.Answers.{replyOf, accepted}
 use Rattle.rules.specs.WellFormed.{lengthsOk, wellFormed}
-use Rattle.rules.specs.Calls.{beginAnswer, closeAnswer, beginRoAnswer, endRoAnswer, appendAnswer}
-use Rattle.rules.specs.Calls.{clearAnswer, within}
-use Rattle.rules.specs.Step.{Call, create, begin, append, clear, commit, rollback, beginRo, endRo, scan}
-use Rattle.rules.specs.Step.{advanceLse, purge, step}
+use Rattle.rules.specs.Calls.{closeAnswer, appendAnswer}
+use Rattle.rules.specs.Calls.{clearAnswer}
+use Rattle.rules.specs.Step.{Call, create, manage, append, clear, rollback, scan, purge, step}
 use Rattle.rules.specs.Ledger.{Line, row, delete, Ledger, heard, marksOf, linesAt, shows, withAdded}
 use Rattle.rules.specs.Ledger.{writerShows}
 use Rattle.rules.specs.Ledger.{readerShows}
+use Rattle.rules.specs.Promises.{isLoad, spares, rowsOf}
 use Rattle.rules.specs.Claim.{eventOf, isOpenIn, shownBy}
 use Rattle.rules.specs.declared.Reader.{Reader}
 use Rattle.rules.specs.declared.Reader.the-variants.{Rw, Ro}
 use Rattle.rules.specs.declared.Answer.{Answer}
 use Rattle.rules.proofs.Laws.Lines.{AllLines, Unseen, shows-unseen, shows-own}
-use Rattle.rules.proofs.Laws.Calls.{create-refused, begin-passed, begin-ro-passed, append-passed, clear-passed}
-use Rattle.rules.proofs.Laws.Snapshots.{isLoad, isPage, marksIn, appliesIn, Keeps, keeps-lines}
-use Rattle.rules.proofs.Laws.Snapshots.{keeps-begin}
-use Rattle.rules.proofs.Laws.Snapshots.{keeps-close, keeps-begin-ro, keeps-end-ro, other-mark}
+use Rattle.rules.proofs.Laws.Calls.{create-refused, append-passed, clear-passed}
+use Rattle.rules.proofs.Laws.Snapshots.{marksIn, appliesIn, Keeps, keeps-lines}
+use Rattle.rules.proofs.Laws.Snapshots.{keeps-close, other-mark}
 use Rattle.rules.proofs.Laws.Snapshots.{unapplied}
+use Rattle.rules.proofs.Laws.ManagerCalls.{manager-keeps}
 use Rattle.rules.proofs.Laws.Snapshots.{own-mark, own-later}
 use Rattle.rules.proofs.Laws.Sound.{rows-room}
 use Rattle.rules.proofs.Laws.Follows.{Follows}
 
--- ---- the calls that do not close a reader, and the rows that it adds
-
--- all but the closing of r, and making new at an epoch in range, which closes every reader
-abbrev pub spares : Reader → Call → Bool
-spares r (create s) = not (within 1 lastEpoch s)
-spares r begin = true
-spares r (append i p batch) = true
-spares r (clear i p) = true
-spares r (commit i) = not (isLoad i r)
-spares r (rollback i) = not (isLoad i r)
-spares r (beginRo e) = true
-spares r (endRo t) = not (isPage t r)
-spares r (scan v p lent) = true
-spares r (advanceLse t) = true
-spares r (purge p) = true
-
--- the rows that an accepted append by r adds to partition p
-abbrev pub rowsOf : Reader → ℕ → Call → Answer → List ℕ
-rowsOf r p (create s) a = []
-rowsOf r p begin a = []
-rowsOf r p (append i q batch) a = cond (isLoad i r && eqb p q && accepted a) batch []
-rowsOf r p (clear i q) a = []
-rowsOf r p (commit i) a = []
-rowsOf r p (rollback i) a = []
-rowsOf r p (beginRo e) a = []
-rowsOf r p (endRo t) a = []
-rowsOf r p (scan v q lent) a = []
-rowsOf r p (advanceLse t) a = []
-rowsOf r p (purge q) a = []
-
 -- a page appends nothing
 pub rowsOf-page : (t p : ℕ) (c : Call) (a : Answer) → rowsOf (Ro t) p c a ≡ []
 rowsOf-page t p (create s) a = refl
-rowsOf-page t p begin a = refl
+rowsOf-page t p (manage c) a = refl
 rowsOf-page t p (append i q batch) a = refl
 rowsOf-page t p (clear i q) a = refl
-rowsOf-page t p (commit i) a = refl
 rowsOf-page t p (rollback i) a = refl
-rowsOf-page t p (beginRo e) a = refl
-rowsOf-page t p (endRo u) a = refl
 rowsOf-page t p (scan v q lent) a = refl
-rowsOf-page t p (advanceLse u) a = refl
 rowsOf-page t p (purge q) a = refl
 
 -- ---- Stays
@@ -202,19 +168,11 @@ module _ {st : Store} {g : Ledger} (F : Follows st g) (r : Reader) (o : isOpenIn
       → Stays r g (heard (eventOf c (replyOf (step c st .answer))) g) (λ p. rowsOf r p c (step c st .answer))
   unfolding step heard eventOf
   stays-step (create s) h = rw (create-refused s (lengthsOk st) h) (stays-still r g o)
-  stays-step begin h = let m = managerOf st in calm r (beginAnswer (wellFormed st) m) o
-    (λ t. rw (begin-passed (wellFormed st) m t .is) (stays-keeps r g _ (keeps-begin (F .tracks) r o) refl))
+  stays-step (manage c) h = let k = manager-keeps c F r o h in stays-keeps r g _ (k .snapshot) (k .lines)
   stays-step (append i q batch) h = step-append i q batch
   stays-step (clear i q) h = calm r (clearAnswer i q st) o
     (λ t. let k = clear-passed i q st t .0 in stays-clear F i q (k .pending) (k .partition) r o)
-  stays-step (commit i) h = let m = managerOf st in calm r (closeAnswer i (wellFormed st) m (committedManager i m)) o
-    (λ t. stays-keeps r g _ (keeps-close g (i ∷ g .committed) i r o (not-true (isLoad i r) h)) refl)
   stays-step (rollback i) h = let m = managerOf st in calm r (closeAnswer i (wellFormed st) m (rolledBackManager i m)) o
     (λ t. stays-keeps r g _ (keeps-close g (g .committed) i r o (not-true (isLoad i r) h)) refl)
-  stays-step (beginRo e) h = let m = managerOf st in calm r (beginRoAnswer e (wellFormed st) m) o
-    (λ t. rw (begin-ro-passed e (wellFormed st) m t .is) (stays-keeps r g _ (keeps-begin-ro (F .tracks) e r o) refl))
-  stays-step (endRo t) h = calm r (endRoAnswer t (wellFormed st) (managerOf st)) o
-    (λ a. stays-keeps r g _ (keeps-end-ro g t r o (not-true (isPage t r) h)) refl)
   stays-step (scan v p lent) h = stays-still r g o
-  stays-step (advanceLse t) h = stays-still r g o
   stays-step (purge p) h = stays-still r g o

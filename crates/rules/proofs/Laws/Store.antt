@@ -150,7 +150,8 @@ pub record RolledBack (i n : ℕ) (st st′ : Store) : Type 0 where
   pub below : (p : ℕ) → p < partitionsMax → p < n → spansAt p st′ ≡ rolledBack i (spansAt p st)
   pub above : (p : ℕ) → p < partitionsMax → n ≤ p → spansAt p st′ ≡ spansAt p st
 
-pub rolledBack-below : (i n : ℕ) (st : Store) → StoreOk st → n ≤ partitionsMax → RolledBack i n st (rolledBackBelow i n st)
+pub rolledBack-below : (i n : ℕ) (st : Store) → StoreOk st → n ≤ partitionsMax
+    → RolledBack i n st (rolledBackBelow i n st)
 unfolding rolledBackBelow
 rolledBack-below i zero st ok h = record { sound = ok; manager = refl; below = λ p l k. absurd (omega arith);
     above = λ p l k. refl }
@@ -172,9 +173,6 @@ module _ (i : ℕ) (st : Store) (ok : StoreOk st) where
   pub rollback-spans : (p : ℕ) → p < partitionsMax
       → spansAt p (rolledBackBelow i partitionsMax st) ≡ rolledBack i (spansAt p st)
   rollback-spans p h = all-below .below p h h
-
-  pub rollback-manager : managerOf (rolledBackBelow i partitionsMax st) ≡ managerOf st
-  rollback-manager = all-below .manager
 
   -- under the manager that the roll back leaves
   pub rollback-ok : (m : Manager) → managerOk m ≡ true

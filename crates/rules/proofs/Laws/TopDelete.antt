@@ -1,16 +1,14 @@
--- Hidden rows by one delete: the greatest applied one decides. 01 "Who sees a row". Definitions:
--- specs/Hides.antt.
--- In order: Top and topDelete; one more span; covers, what the greatest hides; a step; the whole list; the
--- flags by it.
+-- Hidden rows by one delete: the greatest applied one decides. Definitions: specs/Hides.antt, specs/Top.antt.
+-- In order: a step; the whole list; the flags by it.
 -- Assumes nothing.
 use mathlib.Core.Path.{_≡_, refl, sym, _∙_}
-use mathlib.Core.Bool.{Bool, true, false, not, _&&_, _||_, cond}
-use mathlib.Core.List.{List, [], _∷_, _++_}
-use Prim.Native.Nat.{ℕ, suc, _+_, _-_, _≤_, _<_}
+use mathlib.Core.Bool.{Bool, true, false, _&&_, _||_}
+use mathlib.Core.List.{List, [], _∷_}
+use Prim.Native.Nat.{ℕ, suc, _-_, _≤_, _<_}
 use native.Mathlib.Omega.{arith}
 use native.Mathlib.Numerals.{add-one}
 use lib.Dec.{ltb, leb, eqb}
-use lib.ListN.{length, drop, replicate}
+use lib.ListN.{drop}
 use lib.Seq.{drop-nil, drop-drop}
 use borrow.Author.Tests.{ltb-true, ltb-false, leb-true, leb-false, eqb-true, eqb-false, lt-ltb, le-ltb}
 use borrow.Author.Tests.{eq-eqb, ne-eqb}
@@ -18,45 +16,7 @@ use Rattle.lists.specs.Lists.{anyOf}
 use Rattle.lists.proofs.Laws.Bools.{split, and-false, or-right, or-false}
 use Rattle.rules.specs.Span.{Span, isDelete}
 use Rattle.rules.specs.Hides.{hidden, flagsIn, flags}
-
--- the greatest epoch of an applied delete, and one more than the index of the last such delete; 0 and 0 with
--- none
-pub record Top : Type 0 where
-  pub epoch : ℕ
-  pub at : ℕ
-
-abbrev pub noTop : Top
-noTop = record { epoch = 0; at = 0 }
-
--- the span at index n after those before it
-abbrev pub topStep : (ℕ → Bool) → ℕ → Top → Span → Top
-topStep a n top s =
-    cond (isDelete s && a (s .epoch) && leb (top .epoch) (s .epoch)) (record { epoch = s .epoch; at = suc n }) top
-
-unfoldable pub topFrom : (ℕ → Bool) → ℕ → Top → List Span → Top
-topFrom a n top [] = top
-topFrom a n top (s ∷ ss) = topFrom a (suc n) (topStep a n top s) ss
-
-abbrev pub topDelete : (ℕ → Bool) → List Span → Top
-topDelete a ss = topFrom a 0 noTop ss
-
--- ---- one more span
-
-topFrom-snoc : (a : ℕ → Bool) (n : ℕ) (top : Top) (ss : List Span) (s : Span)
-    → topFrom a n top (ss ++ (s ∷ [])) ≡ topStep a (n + length ss) (topFrom a n top ss) s
-unfolding topFrom
-topFrom-snoc a n top [] s = let e : n + 0 ≡ n = omega arith in rw e
-topFrom-snoc a n top (t ∷ ss) s = let e : suc n + length ss ≡ n + suc (length ss) = omega arith in
-    topFrom-snoc a (suc n) (topStep a n top t) ss s ∙ rw e
-
-pub topDelete-snoc : (a : ℕ → Bool) (ss : List Span) (s : Span)
-    → topDelete a (ss ++ (s ∷ [])) ≡ topStep a (length ss) (topDelete a ss) s
-topDelete-snoc a ss s = let e : 0 + length ss ≡ length ss = omega arith in topFrom-snoc a 0 noTop ss s ∙ rw e
-
--- ---- what it hides: rows of a smaller epoch, and rows of its own that stand before its last delete
-
-abbrev pub covers : Top → ℕ → ℕ → Bool
-covers top i j = ltb j (top .epoch) || (eqb j (top .epoch) && ltb i (top .at))
+use Rattle.rules.specs.Top.{Top, noTop, topStep, topFrom, topDelete, covers, flagsBy}
 
 -- by order of two numbers
 order : {P : Type 0} (j e : ℕ) → (j < e → P) → (j ≡ e → P) → (e < j → P) → P
@@ -147,11 +107,6 @@ pub hidden-top-at : (a : ℕ → Bool) (all rest : List Span) (i j : ℕ) → dr
 hidden-top-at a all rest i j e = rw (← e) (hidden-top a all i j)
 
 -- ---- the flags by it
-
-unfoldable pub flagsBy : (ℕ → Bool) → Top → ℕ → List Span → List Bool
-flagsBy s top i [] = []
-flagsBy s top i (t ∷ ss) =
-    replicate (length (t .words)) (s (t .epoch) && not (covers top i (t .epoch))) ++ flagsBy s top (suc i) ss
 
 flags-from : (s a : ℕ → Bool) (all rest : List Span) (i : ℕ) → drop i all ≡ rest
     → flagsIn s a all rest ≡ flagsBy s (topDelete a all) i rest

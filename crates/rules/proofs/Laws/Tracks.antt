@@ -1,7 +1,7 @@
 -- The manager beside the ledger of demand 3: who is open, and who sees what.
--- In order: what the ledger says of a reader, Tracks, the snapshots with one more, who is open, LCE,
+-- In order: who is alive, what the ledger shows a reader by, Tracks, the snapshots with one more, who is open, LCE,
 -- what a reader sees, what comes or goes above LCE.
--- Definitions: specs/Manager.antt, specs/Ledger.antt, specs/Claim.antt.
+-- Definitions: specs/Manager.antt, specs/Ledger.antt, specs/Claim.antt, specs/Promises.antt.
 -- Elsewhere: that each call keeps it (Laws/TracksBegin.antt, Laws/TracksClose.antt,
 -- Laws/TracksReadOnly.antt).
 -- Assumes nothing.
@@ -24,9 +24,10 @@ use Rattle.rules.specs.Manager.{writersOf}
 use Rattle.rules.specs.Manager.{readersOf}
 use Rattle.rules.specs.Sees.{seesRw, appliesRw}
 use Rattle.rules.specs.Calls.{isReader, seesOf, appliesOf}
-use Rattle.rules.specs.Ledger.{Snapshot, Ledger, noSnapshot, named, hasWriter, latest, marksOf, linesAt}
+use Rattle.rules.specs.Ledger.{Snapshot, Ledger, noSnapshot, named, hasOpenRw, latest, marksOf, linesAt}
 use Rattle.rules.specs.Ledger.{shows}
 use Rattle.rules.specs.Ledger.{writerShows, readerShows}
+use Rattle.rules.specs.Promises.{ledgerSees, ledgerApplies}
 use Rattle.rules.specs.Claim.{isOpenIn, shownBy}
 use Rattle.rules.specs.WellFormed.{managerOk}
 use Rattle.rules.specs.declared.RwTxn.{RwTxn}
@@ -44,15 +45,7 @@ aliveIn cs ws j = elem j cs || anyOf (named j) ws
 
 -- committed or open, so not rolled back
 abbrev pub alive : Ledger → ℕ → Bool
-alive g j = elem j (g .committed) || hasWriter j g
-
-abbrev pub ledgerSees : Reader → Ledger → ℕ → Bool
-ledgerSees (Rw i) g j = elem j (marksOf i (g .writers))
-ledgerSees (Ro t) g j = elem j (marksOf t (g .readers))
-
-abbrev pub ledgerApplies : Reader → Ledger → ℕ → Bool
-ledgerApplies (Rw i) g k = elem k (marksOf i (g .writers)) && not (eqb k i)
-ledgerApplies (Ro t) g k = elem k (marksOf t (g .readers))
+alive g j = elem j (g .committed) || hasOpenRw j g
 
 -- these are the tests by which it shows
 pub shownBy-tests : (r : Reader) (p : ℕ) (g : Ledger)
@@ -105,9 +98,6 @@ marksOf-rest i s ss ne = ap (λ (b : Bool). cond b s (firstOf (named i) noSnapsh
 
 -- ---- who is open
 
-pub tracks-ok : {m : Manager} {g : Ledger} → Tracks m g → managerOk m ≡ true
-tracks-ok T = T .ok
-
 pub tracks-admits : {m : Manager} {g : Ledger} → Tracks m g → (r : Reader) → isReader r m ≡ isOpenIn r g
 tracks-admits T (Rw i) = sym (T .writers .same i)
 tracks-admits T (Ro t) = sym (T .readers .same t)
@@ -116,11 +106,6 @@ pub tracks-writer : {m : Manager} {g : Ledger} → Tracks m g → (i : ℕ) → 
     → (alive g i ≡ true) × (m .clock .lse < i) × (i < m .clock .ec)
 tracks-writer {m} {g} T i o = let r = hasOpen-range m (T .ok) i o in let k = manager-facts m (T .ok) .clock in
     (or-right (elem i (g .committed)) _ (T .writers .same i ∙ o), omega arith, r .1)
-
-pub tracks-alive-below : {m : Manager} {g : Ledger} → Tracks m g → (j : ℕ) → alive g j ≡ true → j < m .clock .ec
-tracks-alive-below {m} {g} T j h = or-cases (elem j (g .committed)) (hasWriter j g) h
-  (λ c. T .writers .done-below j c)
-  (λ n w. hasOpen-range m (T .ok) j (sym (T .writers .same j) ∙ w) .1)
 
 -- ---- LCE
 

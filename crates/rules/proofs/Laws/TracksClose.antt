@@ -20,7 +20,7 @@ use Rattle.rules.specs.Manager.{noRw, isOpen, opens, hasOpen, writersOf,
 use Rattle.rules.specs.Close.{committedTxns, droppedTxns, settledLce, settled, committedManager}
 use Rattle.rules.specs.Close.{rolledBackManager}
 use Rattle.rules.specs.Sees.{seesRw}
-use Rattle.rules.specs.Ledger.{Snapshot, Ledger, noSnapshot, named, without, marksOf, withWriters}
+use Rattle.rules.specs.Ledger.{Snapshot, Ledger, noSnapshot, named, without, marksOf, withOpenRw}
 use Rattle.rules.specs.WellFormed.{managerOk}
 use Rattle.rules.specs.declared.RwTxn.{RwTxn}
 use Rattle.rules.specs.declared.Manager.{Manager}
@@ -150,7 +150,7 @@ module _ {m : Manager} {g : Ledger} (T : Tracks m g) (i : ℕ) (o : hasOpen i m 
   not-done : elem i (g .committed) ≡ false
   not-done = split (elem i (g .committed)) (λ t. no-proof (sym (T .writers .done-shut i t) ∙ o)) (λ f. f)
 
-  pub alive-commit : (j : ℕ) → alive (withWriters (i ∷ g .committed) (without i (g .writers)) g) j ≡ alive g j
+  pub alive-commit : (j : ℕ) → alive (withOpenRw (i ∷ g .committed) (without i (g .writers)) g) j ≡ alive g j
   alive-commit j = rw (anyOf-without named named-keyed i j (g .writers)) (split (eqb j i)
     (λ t. rw (t, eqb-true j i t, T .writers .same i, o) (sym (or-right (elem i (g .committed)) true refl)))
     (λ f. rw (f, and-true (anyOf (named j) (g .writers)))))
@@ -180,7 +180,7 @@ module _ {m : Manager} {g : Ledger} (T : Tracks m g) (i : ℕ) (o : hasOpen i m 
   -- ---- roll back
 
   pub alive-rollback : (j : ℕ)
-      → alive (withWriters (g .committed) (without i (g .writers)) g) j ≡ alive g j && not (eqb j i)
+      → alive (withOpenRw (g .committed) (without i (g .writers)) g) j ≡ alive g j && not (eqb j i)
   alive-rollback j = rw (anyOf-without named named-keyed i j (g .writers)) (split (eqb j i)
     (λ t. rw (t, eqb-true j i t, not-done, and-false (anyOf (named i) (g .writers))))
     (λ f. rw (f, and-true (anyOf (named j) (g .writers)), and-true (alive g j))))
@@ -202,7 +202,7 @@ module _ {m : Manager} {g : Ledger} (T : Tracks m g) (i : ℕ) (o : hasOpen i m 
 
 closing-tracks : {m : Manager} {g : Ledger} → Tracks m g → (i : ℕ) → hasOpen i m ≡ true
     → (ts : List RwTxn) (cs : List ℕ) → Closing m g i ts cs → managerOk (settled ts m) ≡ true
-    → Tracks (settled ts m) (withWriters cs (without i (g .writers)) g)
+    → Tracks (settled ts m) (withOpenRw cs (without i (g .writers)) g)
 unfolding settled
 closing-tracks {m} {g} T i o ts cs C ok = let w = hasOpen-range m (T .ok) i o in record {
   ok = ok;
@@ -211,13 +211,13 @@ closing-tracks {m} {g} T i o ts cs C ok = let w = hasOpen-range m (T .ok) i o in
     (manager-facts m (T .ok) .readers .high) (λ j l. C .alive-left j (λ q. omega arith)) (T .readers) }
 
 pub tracks-commit : {m : Manager} {g : Ledger} → Tracks m g → (i : ℕ) → hasOpen i m ≡ true
-    → Tracks (committedManager i m) (withWriters (i ∷ g .committed) (without i (g .writers)) g)
+    → Tracks (committedManager i m) (withOpenRw (i ∷ g .committed) (without i (g .writers)) g)
 unfolding committedManager
 tracks-commit {m} {g} T i o = closing-tracks T i o (committedTxns i (writersOf m)) (i ∷ g .committed)
     (commit-closing T i o) (committed-ok i m (T .ok))
 
 pub tracks-rollback : {m : Manager} {g : Ledger} → Tracks m g → (i : ℕ) → hasOpen i m ≡ true
-    → Tracks (rolledBackManager i m) (withWriters (g .committed) (without i (g .writers)) g)
+    → Tracks (rolledBackManager i m) (withOpenRw (g .committed) (without i (g .writers)) g)
 unfolding rolledBackManager
 tracks-rollback {m} {g} T i o = closing-tracks T i o (droppedTxns i (writersOf m)) (g .committed)
     (rollback-closing T i o) (rolledBack-ok i m (T .ok))

@@ -20,7 +20,7 @@ use Rattle.rules.specs.Manager.{noRo, hasTicket, readersOf}
 use Rattle.rules.specs.ReadOnly.{snapshotEpoch, begunRoManager, endedRoManager}
 use Rattle.rules.specs.Safe.{blocked, targetOf, advancedManager}
 use Rattle.rules.specs.Ledger.{Line, Snapshot, Ledger, noSnapshot, named, without, latest, withLines}
-use Rattle.rules.specs.Ledger.{withReaders}
+use Rattle.rules.specs.Ledger.{withOpenRo}
 use Rattle.rules.specs.Ledger.{withOpened}
 use Rattle.rules.specs.declared.RoTxn.{RoTxn}
 use Rattle.rules.specs.declared.Manager.{Manager}
@@ -118,7 +118,7 @@ ended-track k ps al rs R = record {
     ∙ ap (λ (p : RoTxn). al j && leb j (p .epoch)) (sym (firstOf-without hasTicket hasTicket-keyed noRo k t ps ne))) }
 
 pub tracks-end-ro : {m : Manager} {g : Ledger} → Tracks m g → (t : ℕ)
-    → Tracks (endedRoManager t m) (withReaders (without t (g .readers)) g)
+    → Tracks (endedRoManager t m) (withOpenRo (without t (g .readers)) g)
 unfolding endedRoManager
 tracks-end-ro {m} {g} T t = record {
   ok = endedRo-ok t m (T .ok);
@@ -136,9 +136,3 @@ tracks-advance {m} {g} T t high free =
 
 pub tracks-lines : {m : Manager} {g : Ledger} → Tracks m g → (ls : List (List Line)) → Tracks m (withLines ls g)
 tracks-lines T ls = record { ok = T .ok; writers = T .writers; readers = T .readers }
-
-pub alive-lines : (ls : List (List Line)) (g : Ledger) (j : ℕ) → alive (withLines ls g) j ≡ alive g j
-alive-lines ls g j = refl
-
-pub alive-readers : (rs : List Snapshot) (g : Ledger) (j : ℕ) → alive (withReaders rs g) j ≡ alive g j
-alive-readers rs g j = refl

@@ -2,13 +2,13 @@
 -- measure is what is left of the input.
 -- Assumes nothing.
 use mathlib.Core.Path.{_≡_, refl, sym, _∙_}
-use mathlib.Core.Bool.{true, false}
 use mathlib.Core.List.{List}
 use Prim.Native.Nat.{ℕ, _+_, _-_, _≤_}
 use native.Mathlib.Omega.{arith}
 use lib.ListN.{length, take, drop, length-take, length-drop}
 use lib.Seq.{length-take-le}
 use borrow.Author.Needs.{needs}
+use Rattle.lists.proofs.Laws.Tests.{no-proof}
 use Rattle.rules.specs.Store.{Store}
 use Rattle.store.specs.Kept.{storeOf}
 use Rattle.replay.proofs.Laws.Flushes.{Left, left-start, left-next, left-none, left-end, left-done}
@@ -24,9 +24,6 @@ Inv-loop input rows₀ numbers₀ out₀ state₀ table₀ used₀ rows numbers 
 
 abbrev μ-loop : tie.MeasureT-loop
 μ-loop input rows₀ numbers₀ out₀ state₀ table₀ used₀ rows numbers out state table used = length input - used
-
-unsent : {P : Type 0} → false ≡ true → P
-unsent e = let z : _≡_ {A = ℕ} 0 1 = cc in absurd (omega arith)
 
 -- once some lines are answered
 
@@ -75,18 +72,6 @@ loop-holds : tie.Need-loop-holds Inv-loop μ-loop
 loop-holds c = let a = c .before .before .before .before .args in
     (search needs, refl, refl, refl, left-start (a .input .now) (storeOf (a .state) (a .rows .now) (a .table .at)))
 
-sub-replay : tie.Need-sub-replay Inv-loop μ-loop
-sub-replay c = search needs
-
-part-replay-start : tie.Need-part-replay-start Inv-loop μ-loop
-part-replay-start c = search needs
-
-part-replay-end : tie.Need-part-replay-end Inv-loop μ-loop
-part-replay-end c = search needs
-
-replay-requires : tie.Need-replay-requires Inv-loop μ-loop
-replay-requires c κs = search needs
-
 slice-reshare-prefix-write-all : tie.Need-slice-reshare-prefix-write-all Inv-loop μ-loop
 slice-reshare-prefix-write-all c = wrote c
 
@@ -94,29 +79,8 @@ slice-aggregate-write-all : tie.Need-slice-aggregate-write-all Inv-loop μ-loop
 slice-aggregate-write-all c = let r = R (c .before) .replay in
     sym (length-take-le (r .result .written) (r .last .1 .1 .1 .1 .1 .0) (wrote (c .before)))
 
-write-all-requires : tie.Need-write-all-requires Inv-loop μ-loop
-write-all-requires c κs = search needs
-
-same-length : tie.Need-same-length Inv-loop μ-loop
-same-length c = search needs
-
-same-length-2 : tie.Need-same-length-2 Inv-loop μ-loop
-same-length-2 c = search needs
-
-same-length-3 : tie.Need-same-length-3 Inv-loop μ-loop
-same-length-3 c = search needs
-
 returns : tie.Need-returns Inv-loop μ-loop
-returns c = let t = c .before .before .before in (L t .loop .inv .0, λ e. unsent e)
-
-same-length-4 : tie.Need-same-length-4 Inv-loop μ-loop
-same-length-4 c = search needs
-
-same-length-5 : tie.Need-same-length-5 Inv-loop μ-loop
-same-length-5 c = search needs
-
-same-length-6 : tie.Need-same-length-6 Inv-loop μ-loop
-same-length-6 c = search needs
+returns c = let t = c .before .before .before in (L t .loop .inv .0, no-proof)
 
 returns-2 : tie.Need-returns-2 Inv-loop μ-loop
 returns-2 c = let t = c .before .before .before .before in let l = L t in let v = l .loop in let r = R t .replay in
@@ -133,22 +97,10 @@ add-used : tie.Need-add-used Inv-loop μ-loop
 add-used c = let t = c .before .before .before .before in
     record { fits = omega (arith, used t, S (L t) .good) }
 
-loop-less : tie.Need-loop-less Inv-loop μ-loop
-loop-less c = search needs
-
 loop-again : tie.Need-loop-again Inv-loop μ-loop
 loop-again c = let t = c .before .before .before .before in let r = R t .replay in let v = L t .loop in
     (used t, r .kept .1 .1 .1 .0 ∙ v .inv .1, r .kept .1 .1 .1 .1 .0 ∙ v .inv .2, r .kept .1 .1 .1 .1 .1 .0
       ∙ v .inv .3, left t)
-
-same-length-7 : tie.Need-same-length-7 Inv-loop μ-loop
-same-length-7 c = search needs
-
-same-length-8 : tie.Need-same-length-8 Inv-loop μ-loop
-same-length-8 c = search needs
-
-same-length-9 : tie.Need-same-length-9 Inv-loop μ-loop
-same-length-9 c = search needs
 
 returns-3 : tie.Need-returns-3 Inv-loop μ-loop
 returns-3 c = let l = c .before in let v = l .loop in
@@ -163,25 +115,25 @@ answer-all-spec =
     Inv-loop
     μ-loop
     loop-holds
-    sub-replay
-    part-replay-start
-    part-replay-end
-    replay-requires
+    (λ c. search needs)
+    (λ c. search needs)
+    (λ c. search needs)
+    (λ c κs. search needs)
     slice-reshare-prefix-write-all
     slice-aggregate-write-all
-    write-all-requires
-    same-length
-    same-length-2
-    same-length-3
+    (λ c κs. search needs)
+    (λ c. search needs)
+    (λ c. search needs)
+    (λ c. search needs)
     returns
-    same-length-4
-    same-length-5
-    same-length-6
+    (λ c. search needs)
+    (λ c. search needs)
+    (λ c. search needs)
     returns-2
     add-used
-    loop-less
+    (λ c. search needs)
     loop-again
-    same-length-7
-    same-length-8
-    same-length-9
+    (λ c. search needs)
+    (λ c. search needs)
+    (λ c. search needs)
     returns-3)

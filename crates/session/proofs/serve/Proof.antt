@@ -2,7 +2,7 @@
 -- turns.
 -- Assumes nothing.
 use mathlib.Core.Path.{_≡_, sym, _∙_}
-use Prim.Native.Nat.{_-_, _≤_}
+use Prim.Native.Nat.{_≤_}
 use native.Mathlib.Omega.{arith}
 use lib.ListN.{length}
 use lib.Seq.{length-take-le}
@@ -23,111 +23,41 @@ abbrev μ-loop : tie.MeasureT-loop
 -- once a chunk is answered
 
 abbrev Chunk : Type 0
-Chunk = tie.After-struct-known Inv-loop μ-loop
+Chunk = tie.After-answer-all Inv-loop μ-loop
 
-abbrev A : Chunk → tie.After-answer-all Inv-loop μ-loop
-A k = k .before .before .before .before .before .before .before
+abbrev E : Chunk → tie.After-end-last Inv-loop μ-loop
+E k = k .before .before .before .before .before .before .before
 
-abbrev M : Chunk → tie.After-read-more Inv-loop μ-loop
-M k = A k .before .before .before .before .before .before .before .before
+abbrev R : Chunk → tie.After-read-more Inv-loop μ-loop
+R k = E k .before .before .before .before
 
 abbrev L : Chunk → tie.At-loop Inv-loop μ-loop
-L k = M k .before .before .before
+L k = R k .before .before .before
 
--- and its rest kept
-abbrev K : tie.After-slice-known12 Inv-loop μ-loop → Chunk
+abbrev K : tie.After-struct-known Inv-loop μ-loop → Chunk
 K c = c .before .before .before .before .before .before .before
 
-loop-holds : tie.Need-loop-holds Inv-loop μ-loop
-loop-holds c = search needs
-
-sub-turns : tie.Need-sub-turns Inv-loop μ-loop
-sub-turns c = search needs
-
-read-more-requires : tie.Need-read-more-requires Inv-loop μ-loop
-read-more-requires c κs = search needs
-
-slice-reshare-prefix-answer-last : tie.Need-slice-reshare-prefix-answer-last Inv-loop μ-loop
-slice-reshare-prefix-answer-last c = search needs
-
-slice-aggregate-answer-last : tie.Need-slice-aggregate-answer-last Inv-loop μ-loop
-slice-aggregate-answer-last c = let k = c .before in let r = k .before .before .before .read-more in
-    sym (length-take-le (k .before .before .before .before .before .before .loop .held) (r .last .0)
-      (omega (arith, r .ensures, k .if1 .taken)))
-
-answer-last-requires : tie.Need-answer-last-requires Inv-loop μ-loop
-answer-last-requires c κs = search needs
-
-same-length : tie.Need-same-length Inv-loop μ-loop
-same-length c = search needs
-
-same-length-2 : tie.Need-same-length-2 Inv-loop μ-loop
-same-length-2 c = search needs
-
-same-length-3 : tie.Need-same-length-3 Inv-loop μ-loop
-same-length-3 c = search needs
-
-same-length-4 : tie.Need-same-length-4 Inv-loop μ-loop
-same-length-4 c = search needs
-
-returns : tie.Need-returns Inv-loop μ-loop
-returns c = search needs
-
-slice-reshare-prefix-answer-all : tie.Need-slice-reshare-prefix-answer-all Inv-loop μ-loop
-slice-reshare-prefix-answer-all c = search needs
-
-slice-aggregate-answer-all : tie.Need-slice-aggregate-answer-all Inv-loop μ-loop
-slice-aggregate-answer-all c = let r = c .before .before .before .before .read-more in
-    sym (length-take-le (r .result) (r .last .0) (r .ensures))
+-- each buffer is as long as it was
+lengths : (k : Chunk) → let a = L k .before .before .before .before .before .args in let z = k .answer-all .last in
+    (length (z .1 .1 .1 .0) ≡ length (a .rows .now)) × (length (z .1 .1 .1 .1 .0) ≡ length (a .numbers .now))
+    × (length (E k .end-last .last .0) ≡ length (a .input .now)) × (length (z .1 .1 .1 .1 .1 .0) ≡ length (a .out .now))
+lengths k = let y = k .answer-all .kept in let v = L k .loop .inv in
+    (y .1 .1 .1 .0 ∙ v .1, y .1 .1 .1 .1 .0 ∙ v .2, E k .end-last .kept .0 ∙ (R k .read-more .kept .0 ∙ v .3),
+     y .1 .1 .1 .1 .1 .0 ∙ v .4)
 
 answer-all-requires : tie.Need-answer-all-requires Inv-loop μ-loop
-answer-all-requires c κs = let e = c .before .before .before .before in
-    let l = e .before .before .before .before .before .before in
+answer-all-requires c κs = let l = c .before .before .before .before .before .before .before .before .before .before
+      .before .before .before in
     let p = l .before .before .before .before .before .pre in
     record { for-numbers = omega (arith, p .for-numbers, l .loop .inv .2); for-answer =
         omega (arith, p .for-answer, l .loop .inv .4) }
 
-same-length-5 : tie.Need-same-length-5 Inv-loop μ-loop
-same-length-5 c = A (c .before) .answer-all .kept .1 .1 .1 .0 ∙ L (c .before) .loop .inv .1
-
-same-length-6 : tie.Need-same-length-6 Inv-loop μ-loop
-same-length-6 c = A (c .before) .answer-all .kept .1 .1 .1 .1 .0 ∙ L (c .before) .loop .inv .2
-
-same-length-7 : tie.Need-same-length-7 Inv-loop μ-loop
-same-length-7 c = M (c .before) .read-more .kept .0 ∙ L (c .before) .loop .inv .3
-
-same-length-8 : tie.Need-same-length-8 Inv-loop μ-loop
-same-length-8 c = A (c .before) .answer-all .kept .1 .1 .1 .1 .1 .0 ∙ L (c .before) .loop .inv .4
-
-returns-2 : tie.Need-returns-2 Inv-loop μ-loop
-returns-2 c = search needs
-
-keep-rest-requires : tie.Need-keep-rest-requires Inv-loop μ-loop
-keep-rest-requires c κs = search needs
-
-loop-less : tie.Need-loop-less Inv-loop μ-loop
-loop-less c = let h = M (K c) .before .before .loop-test .taken in omega arith
-
 loop-again : tie.Need-loop-again Inv-loop μ-loop
-loop-again c = let k = K c in let l = L k .loop in let r = c .before .before .keep-rest in let m = M k .read-more in
-    (omega (arith, r .ensures .0, r .kept .0, kept-within (m .last .0) (A k .answer-all .result .used) (m .result)),
-     A k .answer-all .kept .1 .1 .1 .0 ∙ l .inv .1, A k .answer-all .kept .1 .1 .1 .1 .0 ∙ l .inv .2,
-     r .kept .0 ∙ (m .kept .0 ∙ l .inv .3), A k .answer-all .kept .1 .1 .1 .1 .1 .0 ∙ l .inv .4)
-
-same-length-9 : tie.Need-same-length-9 Inv-loop μ-loop
-same-length-9 c = search needs
-
-same-length-10 : tie.Need-same-length-10 Inv-loop μ-loop
-same-length-10 c = search needs
-
-same-length-11 : tie.Need-same-length-11 Inv-loop μ-loop
-same-length-11 c = search needs
-
-same-length-12 : tie.Need-same-length-12 Inv-loop μ-loop
-same-length-12 c = search needs
-
-returns-3 : tie.Need-returns-3 Inv-loop μ-loop
-returns-3 c = search needs
+loop-again c = let h = c .before .before .keep-rest in let k = K (c .before .before .before .before .before .before
+      .before .before) in let n = lengths k in
+    (omega (arith, h .ensures .0, h .kept .0,
+      kept-within (E k .end-last .last .0) (k .answer-all .result .used) (R k .read-more .result)),
+     n .0, n .1, h .kept .0 ∙ n .2, n .3)
 
 pub serve-spec : {M : Type 1} → statement M
 serve-spec =
@@ -135,30 +65,29 @@ serve-spec =
     (tie.spec
     Inv-loop
     μ-loop
-    loop-holds
-    sub-turns
-    read-more-requires
-    slice-reshare-prefix-answer-last
-    slice-aggregate-answer-last
-    answer-last-requires
-    same-length
-    same-length-2
-    same-length-3
-    same-length-4
-    returns
-    slice-reshare-prefix-answer-all
-    slice-aggregate-answer-all
+    (λ c. search needs)
+    (λ c. search needs)
+    (λ c κs. search needs)
+    (λ c κs. search needs)
+    (λ c. c .before .before .end-last .ensures)
+    (λ c. sym (length-take-le _ _ (c .before .before .before .end-last .ensures)))
     answer-all-requires
-    same-length-5
-    same-length-6
-    same-length-7
-    same-length-8
-    returns-2
-    keep-rest-requires
-    loop-less
+    (λ c. lengths (K (c .before)) .0)
+    (λ c. lengths (K (c .before)) .1)
+    (λ c. lengths (K (c .before)) .2)
+    (λ c. lengths (K (c .before)) .3)
+    (λ c. search needs)
+    (λ c. lengths (K (c .before .before)) .0)
+    (λ c. lengths (K (c .before .before)) .1)
+    (λ c. lengths (K (c .before .before)) .2)
+    (λ c. lengths (K (c .before .before)) .3)
+    (λ c. search needs)
+    (λ c κs. search needs)
+    (λ c. let k = K (c .before .before .before .before .before .before .before .before) in
+      let h = R k .before .before .loop-test .taken in omega arith)
     loop-again
-    same-length-9
-    same-length-10
-    same-length-11
-    same-length-12
-    returns-3)
+    (λ c. search needs)
+    (λ c. search needs)
+    (λ c. search needs)
+    (λ c. search needs)
+    (λ c. search needs))

@@ -3,16 +3,17 @@
 -- Assumes nothing.
 use mathlib.Core.Path.{_≡_, refl, sym, _∙_, ap}
 use mathlib.Core.Bool.{Bool, true, false, cond}
-use mathlib.Core.List.{List, [], _∷_, _++_}
+use mathlib.Core.List.{List, [], _∷_}
 use Prim.Native.Nat.{ℕ, suc, _+_, _-_, _≤_, _<_}
 use native.Mathlib.Omega.{arith}
 use lib.ListN.{length, take, drop, getD}
 use lib.Seq.{length-take-le, getD-take, take-append-seam}
-use lib.Dec.{ltb, leb, eqb}
-use borrow.Author.Tests.{le-leb, lt-leb, ne-eqb, eqb-true, eqb-false, lt-ltb, le-ltb}
+use lib.Dec.{leb, eqb}
+use borrow.Author.Tests.{le-leb, lt-leb, ne-eqb, lt-ltb, le-ltb}
 use Rattle.lists.specs.Lists.{over}
 use Rattle.lists.proofs.Laws.Bools.{split}
-use Rattle.rules.specs.declared.Command.the-variants.{Begin}
+use Rattle.rules.specs.declared.Command.the-variants.{Manage}
+use Rattle.rules.specs.declared.ManagerCall.the-variants.{Begin}
 use Rattle.session_text.specs.declared.Parsed.{Parsed}
 use Rattle.session_text.specs.declared.Parsed.the-variants.{Call, Bad}
 use Rattle.session_text.specs.Grammar.{withOne, withTwo, withMore, withNumbers, scanBy, isCall}
@@ -126,7 +127,8 @@ no-bytes (a ∷ []) h n = absurd (n refl)
 no-bytes (a ∷ b ∷ []) h n = refl
 no-bytes (a ∷ b ∷ d ∷ bs) h n = absurd (omega arith)
 
-pub one-byte : (line : List ℕ) → length line ≡ 1 → cond (eqb (getD line 0 0) 66) (Call Begin 0) Bad ≡ parsedShort line
+pub one-byte : (line : List ℕ) → length line ≡ 1 → cond (eqb (getD line 0 0) 66) (Call (Manage Begin) 0) Bad ≡
+    parsedShort line
 unfolding parsedShort
 one-byte [] h = absurd (omega arith)
 one-byte (a ∷ []) h = refl

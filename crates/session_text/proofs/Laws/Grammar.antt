@@ -9,9 +9,9 @@ use Prim.Native.Nat.{ℕ, suc, _+_, _-_, _*_, _^_, _≤_, _<_}
 use native.Mathlib.Omega.{arith}
 use lib.ListN.{length, length-map}
 use lib.Dec.{ltb, leb, eqb}
-use borrow.Author.Tests.{ltb-true, ltb-false, lt-ltb, le-ltb, le-leb, leb-true, ne-eqb}
+use borrow.Author.Tests.{ltb-true, ltb-false, lt-ltb, le-ltb, leb-true, ne-eqb}
 use Rattle.lists.specs.Lists.{allOf}
-use Rattle.lists.proofs.Laws.Bools.{split, and-left, and-right, and-both, and-false, and-true, or-false}
+use Rattle.lists.proofs.Laws.Bools.{split, and-left, and-right, and-both, and-false}
 use Rattle.lists.proofs.Laws.Tests.{no-proof}
 use Rattle.session_text.specs.Grammar.{onFirst, words, isDigit, valueOf, isNumber, areNumbers, numbersOf}
 use Rattle.session_text.specs.Numbers.{grownBy}

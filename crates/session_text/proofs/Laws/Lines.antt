@@ -1,21 +1,17 @@
 -- Laws of a line in a buffer. Definitions: specs/Lines.antt, specs/Print.antt.
--- In order: whether it has room, its length, its parts written in order, the line that answers a call, line ends.
+-- In order: whether it has room, its length, its parts written in order, line ends.
 -- Assumes nothing.
-use mathlib.Core.Path.{_≡_, refl, sym, _∙_, ap}
-use mathlib.Core.Bool.{true, false, cond}
+use mathlib.Core.Path.{_≡_, refl, sym, _∙_}
 use mathlib.Core.List.{List, [], _∷_, _++_}
-use Prim.Native.Nat.{ℕ, zero, suc, _+_, _≤_, _<_}
+use Prim.Native.Nat.{ℕ, suc, _+_, _≤_, _<_}
 use native.Mathlib.Omega.{arith}
 use lib.ListN.{length, drop, set, length-append, length-set}
 use borrow.Author.Tests.{le-leb, lt-leb, lt-ltb, le-ltb, ne-eqb}
 use Rattle.lists.specs.Lists.{over, gather}
 use Rattle.lists.proofs.Laws.Parts.{length-over}
-use Rattle.rules.specs.Answers.{replyOf}
-use Rattle.rules.specs.declared.Answer.{Answer}
-use Rattle.rules.specs.declared.Command.{Command}
-use Rattle.session_text.specs.Print.{spaced, letterOf, valuesOf, printed}
-use Rattle.session_text.specs.Lines.{sizeIn, writtenIn, lineOf, beforeEnd, lineEnd}
-use Rattle.session_text.proofs.Laws.Over.{over-one, over-cons, over-append}
+use Rattle.session_text.specs.Print.{spaced, lineOf}
+use Rattle.session_text.specs.Lines.{sizeIn, writtenIn, beforeEnd, lineEnd}
+use Rattle.lists.proofs.Laws.Over.{over-one, over-cons, over-append}
 
 pub no-room : (line out : List ℕ) → length out < length line → (0 ≡ sizeIn line out) × (out ≡ writtenIn line out)
 no-room line out h = let e = lt-leb (length line) (length out) h in (rw e, rw e)
@@ -52,33 +48,6 @@ module _ (letter n : ℕ) (vs : List ℕ) where
       → (at' + 1 ≡ length (lineOf letter n vs)) × (set o' at' 10 ≡ over 0 (lineOf letter n vs) out)
   parts-line out o o' at at' h p q p' q' =
       (omega (arith, length-line), rw (p', q', p, q) (sym (over-line out h)))
-
--- ---- the line that answers a call
-
-printed-refused : (c : Command) (a : Answer) (shown : List ℕ) → (replyOf a .number ≡ 0 → ⊥)
-    → lineOf (letterOf c) (replyOf a .number) [] ≡ printed c a shown
-unfolding printed
-printed-refused c a shown h = rw (ne-eqb (replyOf a .number) 0 h)
-
-printed-accepted : (c : Command) (a : Answer) (shown : List ℕ) → replyOf a .number ≡ 0
-    → lineOf (letterOf c) 0 (valuesOf c (replyOf a .value) shown) ≡ printed c a shown
-unfolding printed
-printed-accepted c a shown h = rw h
-
-module _ (c : Command) (a : Answer) (shown out : List ℕ) (letter n r : ℕ) (w : List ℕ)
-    (is-letter : letter ≡ letterOf c) (is-number : n ≡ replyOf a .number) where
-  pub print-refused : (n ≡ 0 → ⊥) → r ≡ sizeIn (lineOf letter n []) out → w ≡ writtenIn (lineOf letter n []) out
-      → (r ≡ sizeIn (printed c a shown) out) × (w ≡ writtenIn (printed c a shown) out)
-  print-refused h p q = let e : lineOf letter n [] ≡ printed c a shown =
-        rw (is-letter, is-number) (printed-refused c a shown (λ z. h (is-number ∙ z))) in
-      (p ∙ ap (λ (l : List ℕ). sizeIn l out) e, q ∙ ap (λ (l : List ℕ). writtenIn l out) e)
-
-  pub print-accepted : n ≡ 0 → (vs : List ℕ) → vs ≡ valuesOf c (replyOf a .value) shown
-      → r ≡ sizeIn (lineOf letter 0 vs) out → w ≡ writtenIn (lineOf letter 0 vs) out
-      → (r ≡ sizeIn (printed c a shown) out) × (w ≡ writtenIn (printed c a shown) out)
-  print-accepted h vs v p q = let e : lineOf letter 0 vs ≡ printed c a shown =
-        rw (is-letter, v) (printed-accepted c a shown (sym is-number ∙ h)) in
-      (p ∙ ap (λ (l : List ℕ). sizeIn l out) e, q ∙ ap (λ (l : List ℕ). writtenIn l out) e)
 
 -- ---- line ends
 

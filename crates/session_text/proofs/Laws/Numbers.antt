@@ -1,8 +1,8 @@
 -- One byte more of a line's numbers, as the code goes. Definition: specs/Numbers.antt's stepped.
 -- In order: what it is in each case; what it says of the line; the count; the numbers written.
 -- Assumes nothing.
-use mathlib.Core.Path.{_≡_, refl, sym, _∙_, ap}
-use mathlib.Core.Bool.{Bool, true, false, _&&_, cond}
+use mathlib.Core.Path.{_≡_, refl, _∙_, ap}
+use mathlib.Core.Bool.{Bool, true, false, cond}
 use mathlib.Core.List.{List, [], _∷_}
 use Prim.Native.Nat.{ℕ, suc, _+_, _^_, _≤_, _<_}
 use native.Mathlib.Omega.{arith}
@@ -19,7 +19,7 @@ use Rattle.session_text.specs.Numbers.{grownBy, stepped}
 use Rattle.session_text.proofs.Laws.Grammar.{okFrom, laterIn, ok-start, ok-blank, ok-digit, ok-other, ok-wide}
 use Rattle.session_text.proofs.Laws.Grammar.{digit-other, later-blank, later-other, values-start, length-values}
 use Rattle.session_text.proofs.Laws.Grammar.{valuesFrom, values-nil, values-blank}
-use Rattle.session_text.proofs.Laws.Over.{over-one, over-cons}
+use Rattle.lists.proofs.Laws.Over.{over-one, over-cons}
 
 pub below-digit : (b : ℕ) → b < 48 → isDigit b ≡ false
 below-digit b h = rw (lt-leb 48 b h)

@@ -1,7 +1,7 @@
 -- Laws of the decimal digits. Definitions: specs/Print.antt.
 -- In order: a number below 10, one of more digits, how many there are, writing them; values.
 -- Assumes nothing.
-use mathlib.Core.Path.{_≡_, refl, sym, _∙_, ap}
+use mathlib.Core.Path.{_≡_, sym, _∙_, ap}
 use mathlib.Core.List.{List, [], _∷_, _++_}
 use Prim.Native.Nat.{ℕ, zero, suc, _+_, _-_, _/_, _%_, _^_, _≤_, _<_}
 use native.Mathlib.Omega.{arith}
@@ -13,7 +13,7 @@ use borrow.Author.Tests.{lt-ltb, le-ltb, le-leb, leb-true}
 use Rattle.lists.specs.Lists.{over, gather}
 use Rattle.lists.proofs.Laws.Bools.{split, same-test}
 use Rattle.session_text.specs.Print.{decimalBy, decimal, spaced}
-use Rattle.session_text.proofs.Laws.Over.{over-one, over-snoc, over-append}
+use Rattle.lists.proofs.Laws.Over.{over-one, over-snoc, over-append}
 
 pub decimal-small : (n : ℕ) → n < 10 → decimal n ≡ (48 + n) ∷ []
 unfolding decimalBy

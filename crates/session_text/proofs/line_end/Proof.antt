@@ -1,8 +1,8 @@
 -- `session_text::line_end` meets its contract. The invariant: the line's end is where it is from i on.
 -- The measure is what is left of the input.
 -- Assumes nothing.
-use mathlib.Core.Path.{_≡_, refl, sym, _∙_, ap}
-use Prim.Native.Nat.{suc, _+_, _-_, _≤_, _<_, _^_}
+use mathlib.Core.Path.{_≡_, ap}
+use Prim.Native.Nat.{suc, _+_, _-_, _≤_}
 use native.Mathlib.Omega.{arith}
 use lib.ListN.{length, drop, getD, drop-of-length-le}
 use lib.Seq.{drop-cons}
@@ -25,22 +25,16 @@ returns c = let a = c .before .args in end-past (a .input .now) (a .from) (c .if
 loop-holds : tie.Need-loop-holds Inv-loop μ-loop
 loop-holds c = let a = c .before .args in (search needs, end-within (a .input .now) (a .from) (c .if1 .left))
 
-shared-slice-read-if2 : tie.Need-shared-slice-read-if2 Inv-loop μ-loop
-shared-slice-read-if2 c = search needs
-
 returns-2 : tie.Need-returns-2 Inv-loop μ-loop
-returns-2 c = let l = c .before .before .before .loop in let input = c .before .before .before .before .before .args .input .now in
+returns-2 c = let l = c .before .before .before .loop in
+    let input = c .before .before .before .before .before .args .input .now in
     let here = drop-cons input (l .i) 0 (c .before .before .loop-test .taken) in
-    omega (arith, l .inv .1, ap beforeEnd here, end-here (getD input (l .i) 0) (drop (suc (l .i)) input) (c .if2 .taken))
-
-add-i : tie.Need-add-i Inv-loop μ-loop
-add-i c = search needs
-
-loop-less : tie.Need-loop-less Inv-loop μ-loop
-loop-less c = search needs
+    omega (arith, l .inv .1, ap beforeEnd here,
+      end-here (getD input (l .i) 0) (drop (suc (l .i)) input) (c .if2 .taken))
 
 loop-again : tie.Need-loop-again Inv-loop μ-loop
-loop-again c = let l = c .before .before .before .loop in let input = c .before .before .before .before .before .args .input .now in
+loop-again c = let l = c .before .before .before .loop in
+    let input = c .before .before .before .before .before .args .input .now in
     let here = drop-cons input (l .i) 0 (c .before .before .loop-test .taken) in (
   search needs,
   rw add-one (omega (arith, l .inv .1, ap beforeEnd here,
@@ -59,9 +53,9 @@ line-end-spec =
     μ-loop
     returns
     loop-holds
-    shared-slice-read-if2
+    (λ c. search needs)
     returns-2
-    add-i
-    loop-less
+    (λ c. search needs)
+    (λ c. search needs)
     loop-again
     returns-3)

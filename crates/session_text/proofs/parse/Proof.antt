@@ -9,45 +9,26 @@ use borrow.Author.Needs.{needs}
 use borrow.Author.Needs.{needs}
 use Rattle.session_text.proofs.parse.Statement.{statement}
 use Rattle.session_text.proofs.parse.Tie as tie
-use Rattle.session_text.proofs.call.from_of.Reads as from-of-reads
-use Rattle.session_text.proofs.call.parse_letter.Reads as parse-letter-reads
-use Rattle.session_text.proofs.call.parse_numbers.Reads as parse-numbers-reads
 
 returns : tie.Need-returns
 returns c = let a = c .before .before .before .args in
     (bad-line (a .line .now) (a .numbers .now) (long-line (a .line .now) (c .if1 .taken)), refl)
 
-parse-letter-requires : tie.Need-parse-letter-requires
-parse-letter-requires c κs = search needs
-
 returns-2 : tie.Need-returns-2
 returns-2 c = let a = c .before .before .before .before .before .args in
-    short-line (a .line .now) (a .numbers .now) (c .parse-letter .result) (c .before .if2 .taken) (c .parse-letter .ensures)
-
-shared-slice-read-if3 : tie.Need-shared-slice-read-if3
-shared-slice-read-if3 c = search needs
+    short-line (a .line .now) (a .numbers .now) (c .parse-letter .result) (c .before .if2 .taken)
+    (c .parse-letter .ensures)
 
 returns-3 : tie.Need-returns-3
 returns-3 c = let e = c .before .before in let a = e .before .before .before .before .args in
     (bad-line (a .line .now) (a .numbers .now)
       (unblank-line (a .line .now) (e .before .if1 .left) (e .if2 .left) (c .if3 .taken)), refl)
 
-shared-slice-read-letter : tie.Need-shared-slice-read-letter
-shared-slice-read-letter c = search needs
-
-from-of-requires : tie.Need-from-of-requires
-from-of-requires c κs = search needs
-
-shared-slice-read-parse-numbers : tie.Need-shared-slice-read-parse-numbers
-shared-slice-read-parse-numbers c = search needs
-
 parse-numbers-requires : tie.Need-parse-numbers-requires
 parse-numbers-requires c κs = let e = c .before .before .before .before .before .before in
     let a = e .before .before .before .before .args in
-    (omega (arith, e .if2 .left, c .before .before .from-of .ensures, from-le (getD (a .line .now) 0 0)), e .before .if1 .left)
-
-same-length : tie.Need-same-length
-same-length c = search needs
+    (omega (arith, e .if2 .left, c .before .before .from-of .ensures, from-le (getD (a .line .now) 0 0)),
+     e .before .if1 .left)
 
 returns-4 : tie.Need-returns-4
 returns-4 c = let r = c .before .before .parse-numbers in let f = c .before .before .before .before .before in
@@ -60,13 +41,13 @@ parse-spec =
     tie.close
     (tie.spec
     returns
-    parse-letter-requires
+    (λ c κs. search needs)
     returns-2
-    shared-slice-read-if3
+    (λ c. search needs)
     returns-3
-    shared-slice-read-letter
-    from-of-requires
-    shared-slice-read-parse-numbers
+    (λ c. search needs)
+    (λ c κs. search needs)
+    (λ c. search needs)
     parse-numbers-requires
-    same-length
+    (λ c. search needs)
     returns-4)

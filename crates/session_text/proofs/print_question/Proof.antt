@@ -1,12 +1,11 @@
 -- `session_text::print_question` meets its contract.
 -- Assumes nothing.
-use mathlib.Core.Path.{_≡_, refl, sym, _∙_, ap}
-use Prim.Native.Nat.{_+_, _-_, _≤_, _<_, _^_}
-use native.Mathlib.Omega.{arith}
+use mathlib.Core.Path.{refl, sym, _∙_}
+use Prim.Native.Nat.{_-_}
 use mathlib.Core.List.{[], _∷_}
 use lib.ListN.{set, length-set}
 use Rattle.session_text.specs.Print.{question}
-use Rattle.session_text.proofs.Laws.Over.{over-one, over-cons}
+use Rattle.lists.proofs.Laws.Over.{over-one, over-cons}
 use Rattle.session_text.proofs.Laws.Lines.{no-room, room}
 use borrow.Author.Needs.{needs}
 use borrow.Author.Needs.{needs}
@@ -16,15 +15,6 @@ use Rattle.session_text.proofs.print_question.Tie as tie
 returns : tie.Need-returns
 returns c = no-room question (c .before .args .out .now) (c .if1 .taken)
 
-slice-write-out : tie.Need-slice-write-out
-slice-write-out c = search needs
-
-slice-write-out-2 : tie.Need-slice-write-out-2
-slice-write-out-2 c = search needs
-
-same-length : tie.Need-same-length
-same-length c = search needs
-
 returns-2 : tie.Need-returns-2
 returns-2 c = let l = c .before .args .out .now in
     room question l 2 (set (set l 0 63) 1 10) (c .if1 .left) refl
@@ -32,4 +22,10 @@ returns-2 c = let l = c .before .args .out .now in
 
 pub print-question-spec : {M : Type 1} → statement M
 print-question-spec =
-    tie.close (tie.spec returns slice-write-out slice-write-out-2 same-length returns-2)
+    tie.close
+    (tie.spec
+    returns
+    (λ c. search needs)
+    (λ c. search needs)
+    (λ c. search needs)
+    returns-2)

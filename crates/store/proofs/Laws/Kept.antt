@@ -10,17 +10,13 @@ use borrow.Author.Tests.{eqb-true}
 use Rattle.lists.proofs.Laws.Bools.{split, and-false}
 use Rattle.lists.proofs.Laws.Tests.{and-comm}
 use Rattle.rules.specs.Limits.{rowsMax, entriesMax, areasMax}
-use Rattle.rules.specs.Begin.{begunManager}
-use Rattle.rules.specs.Close.{committedManager}
-use Rattle.rules.specs.ReadOnly.{begunRoManager, endedRoManager}
-use Rattle.rules.specs.Safe.{advancedManager}
 use Rattle.rules.specs.Answers.{accepted}
 use Rattle.rules.specs.WellFormed.{wellFormed, lengthsOk, managerOk}
-use Rattle.rules.specs.Calls.{createAnswer, beginAnswer, closeAnswer, beginRoAnswer, endRoAnswer}
-use Rattle.rules.specs.Calls.{advanceLseAnswer}
-use Rattle.rules.specs.Step.{step, create, begin, commit, beginRo, endRo, advanceLse}
+use Rattle.rules.specs.Calls.{createAnswer, managerAnswer, managerAfter}
+use Rattle.rules.specs.Step.{step, create, manage}
 use Rattle.rules.specs.Store.{withManager, createdStore}
 use Rattle.rules.specs.declared.Answer.{Answer}
+use Rattle.rules.specs.declared.ManagerCall.{ManagerCall}
 use Rattle.rules.specs.declared.Entry.{Entry}
 use Rattle.rules.specs.declared.Manager.{Manager}
 use Rattle.rules.specs.declared.State.{State}
@@ -28,8 +24,7 @@ use Rattle.lent.specs.Entries.{tableOf}
 use Rattle.lent.proofs.Lists.{filled-all}
 use Rattle.partition_sound.proofs.Laws.Sound.{wellFormed-is}
 use Rattle.admit.specs.Sound.{lengthsAre, restOk, soundOf}
-use Rattle.store.specs.Kept.{storeOf, Left, freshPartitions, createKept, keptOf, beginKept}
-use Rattle.store.specs.Kept.{commitKept, beginRoKept, endRoKept, advanceLseKept}
+use Rattle.store.specs.Kept.{storeOf, Left, createKept, keptOf, managerKept}
 
 -- the test by value is rules' wellFormed
 pub sound-is : (s : State) (es : List Entry) (rs : List ℕ)
@@ -49,42 +44,15 @@ pub kept-left : (a : Answer) (next : Manager) (s : State) (es : List Entry) (rs 
     → storeOf (keptOf a next s .state) rs es ≡ cond (accepted a) (withManager next (storeOf s rs es)) (storeOf s rs es)
 kept-left a next s es rs = split (accepted a) (λ t. rw t) (λ f. rw f)
 
-pub begin-left : (s : State) (es : List Entry) (rs : List ℕ)
-    → Left (step begin (storeOf s rs es)) (beginKept s (tableOf es) (length es) (length rs)) rs es
+pub manage-left : (s : State) (es : List Entry) (rs : List ℕ) (c : ManagerCall)
+    → Left (step (manage c) (storeOf s rs es)) (managerKept s (tableOf es) (length es) (length rs) c) rs es
 unfolding step
-begin-left s es rs = rw (sound-is s es rs) (refl, kept-left (beginAnswer (wellFormed (storeOf s rs es)) (s
-    .manager)) (begunManager (s .manager)) s es rs)
-
-pub commit-left : (s : State) (es : List Entry) (rs : List ℕ) (a : ℕ)
-    → Left (step (commit a) (storeOf s rs es)) (commitKept s (tableOf es) (length es) (length rs) a) rs es
-unfolding step
-commit-left s es rs a = rw (sound-is s es rs)
-    (refl, kept-left (closeAnswer a (wellFormed (storeOf s rs es)) (s .manager) (committedManager a (s .manager)))
-        (committedManager a (s .manager)) s es rs)
-
-pub begin-ro-left : (s : State) (es : List Entry) (rs : List ℕ) (a : ℕ)
-    → Left (step (beginRo a) (storeOf s rs es)) (beginRoKept s (tableOf es) (length es) (length rs) a) rs es
-unfolding step
-begin-ro-left s es rs a = rw (sound-is s es rs)
-    (refl, kept-left (beginRoAnswer a (wellFormed (storeOf s rs es)) (s .manager)) (begunRoManager a (s .manager))
-        s es rs)
-
-pub end-ro-left : (s : State) (es : List Entry) (rs : List ℕ) (a : ℕ)
-    → Left (step (endRo a) (storeOf s rs es)) (endRoKept s (tableOf es) (length es) (length rs) a) rs es
-unfolding step
-end-ro-left s es rs a = rw (sound-is s es rs)
-    (refl, kept-left (endRoAnswer a (wellFormed (storeOf s rs es)) (s .manager)) (endedRoManager a (s .manager)) s
-        es rs)
-
-pub advance-lse-left : (s : State) (es : List Entry) (rs : List ℕ) (a : ℕ)
-    → Left (step (advanceLse a) (storeOf s rs es)) (advanceLseKept s (tableOf es) (length es) (length rs) a) rs es
-unfolding step
-advance-lse-left s es rs a = rw (sound-is s es rs)
-    (refl, kept-left (advanceLseAnswer a (wellFormed (storeOf s rs es)) (s .manager)) (advancedManager a (s
-        .manager)) s es rs)
+manage-left s es rs c = rw (sound-is s es rs)
+    (refl, kept-left (managerAnswer c (wellFormed (storeOf s rs es)) (s .manager)) (managerAfter c (s .manager)) s es
+      rs)
 
 pub create-left : (s : State) (es : List Entry) (rs : List ℕ) (a : ℕ)
     → Left (step (create a) (storeOf s rs es)) (createKept s (tableOf es) (length es) (length rs) a) rs es
-unfolding step lengthsOk lengthsAre createdStore freshPartitions
+unfolding step lengthsOk lengthsAre createdStore
 create-left s es rs a = (refl, split (accepted (createAnswer a (lengthsOk (storeOf s rs es)))) (λ t. rw t) (λ f. rw
     f))

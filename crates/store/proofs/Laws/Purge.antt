@@ -33,15 +33,15 @@ use Rattle.lent.specs.Entries.{tableOf}
 use Rattle.lent.specs.Shapes.{saved}
 use Rattle.lent.proofs.Lists.{filled-all}
 use Rattle.lent.proofs.Saved.{saved-none, saved-over}
-use Rattle.visible.specs.Bare.{entriesIn}
 use Rattle.rewrite_plan.specs.Plan.{spansIn}
 use Rattle.rewrite.specs.Kept.{endsFit, areaOf, asRewritten, rewrittenOf}
 use Rattle.rewrite.specs.Copied.{areasApart, copyOk, rowsCopied}
-use Rattle.visible.specs.declared.Area.{Area}
+use Rattle.area.specs.declared.Area.{Area}
 use Rattle.rewrite_plan.specs.declared.Plan.{Plan}
 use Rattle.rewrite.proofs.Laws.Store.{Dated, dated, area-entries, skips-same, purged-area, purged-copied}
 use Rattle.rewrite.proofs.Laws.Copied.{apart-before, apart-after}
-use Rattle.compact.specs.Areas.{baseOf, areaAt, movedTo}
+use Rattle.area.specs.Area.{entriesIn, baseOf, areaAt}
+use Rattle.partition.specs.Areas.{movedTo}
 use Rattle.admit.specs.Admit.{partitionOf}
 use Rattle.plan_purge.specs.Purge.{unwrittenPurge, planAt, movedPurge, purgePlan, newOf, placeOf}
 use Rattle.plan_purge.specs.declared.Purge.{Purge}

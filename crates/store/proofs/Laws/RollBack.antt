@@ -5,7 +5,7 @@ use mathlib.Core.Path.{_≡_, refl, ap, _∙_}
 use mathlib.Core.List.{List, _++_}
 use Prim.Native.Nat.{ℕ, zero, suc, _≤_}
 use native.Mathlib.Omega.{arith}
-use lib.ListN.{length, take, drop, getD}
+use lib.ListN.{length, take, drop}
 use lib.Seq.{take-all}
 use Rattle.lists.proofs.Laws.Bools.{split}
 use Rattle.rules.specs.Limits.{partitionsMax}
@@ -31,7 +31,7 @@ use Rattle.plan_rollback.specs.RollBack.{leftAlone, carriedOut, rollBackOf, pla
 use Rattle.store.specs.Kept.{storeOf, Left}
 use Rattle.store.specs.Done.{doneRollBack}
 use Rattle.store.proofs.Laws.Kept.{sound-is}
-use Rattle.compact.proofs.Laws.Areas.{put-next, copied-all}
+use Rattle.lists.proofs.Laws.Over.{put-next, copied-all}
 
 -- ---- entries saved one by one
 

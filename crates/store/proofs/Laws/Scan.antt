@@ -26,7 +26,7 @@ use Rattle.rules.specs.declared.Reader.the-variants.{Rw, Ro}
 use Rattle.rules.specs.declared.Entry.{Entry}
 use Rattle.rules.specs.declared.State.{State}
 use Rattle.rules.proofs.Laws.Bitmap.{length-packed}
-use Rattle.rules.proofs.Laws.Calls.{refused}
+use Rattle.rules.proofs.Laws.Answers.{refused}
 use Rattle.rules.proofs.Laws.Hides.{length-flags}
 use Rattle.rules.proofs.Laws.SpansTest.{EntriesOk, entries-ok}
 use Rattle.rules.proofs.Laws.WellFormed.{StoreOk, store-facts}
@@ -34,10 +34,9 @@ use Rattle.lent.specs.Entries.{tableOf}
 use Rattle.lent.proofs.Lists.{filled-all}
 use Rattle.visible.specs.declared.View.{View}
 use Rattle.visible.specs.View.{seesView, appliesView}
-use Rattle.visible.specs.Bare.{entriesIn}
 use Rattle.visible.specs.Scan.{scanOk, scanned, bitmapScanned}
 use Rattle.visible.proofs.Laws.Scan.{spanFlags, scan-ok, scanned-spans, bitmap-spans}
-use Rattle.compact.specs.Areas.{areaAt}
+use Rattle.area.specs.Area.{entriesIn, areaAt}
 use Rattle.admit.specs.Admit.{partitionOf}
 use Rattle.plan_scan.specs.Scan.{noBits, refusedLook, lookAt, rwView, roView, lookBy, rwLook, roLook, copied}
 use Rattle.plan_scan.specs.declared.Look.{Look}
@@ -81,7 +80,8 @@ module _ (s : State) (es : List Entry) (rs : List ℕ) (ok : StoreOk (storeOf s 
 
   pub entries-facts : EntriesOk (s .manager) (partitionOf p s .rows) (entriesAt p (storeOf s rs es))
   entries-facts = let part = ok .partition p h in
-      rw (part .entries-are, ← part .row-count) at (entries-ok (s .manager) (spansAt p (storeOf s rs es)) (part .spans-ok))
+      rw (part .entries-are, ← part .row-count)
+        at (entries-ok (s .manager) (spansAt p (storeOf s rs es)) (part .spans-ok))
 
   scans : scanOk (areaAt es (partitionOf p s)) (partitionOf p s .rows) noBits ≡ true
   scans = let o = entries-facts in let q = partitionOf p s in

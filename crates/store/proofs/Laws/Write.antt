@@ -30,7 +30,7 @@ use Rattle.rules.specs.declared.Entry.{Entry}
 use Rattle.rules.specs.declared.State.{State}
 use Rattle.rules.proofs.State as state-type
 use Rattle.rules.proofs.Laws.Append.{words-appended, length-cleared}
-use Rattle.rules.proofs.Laws.Calls.{refused}
+use Rattle.rules.proofs.Laws.Answers.{refused}
 use Rattle.rules.proofs.Laws.WellFormed.{StoreOk, store-facts}
 use Rattle.lent.specs.Entries.{none, tableOf}
 use Rattle.lent.proofs.Lists.{filled-all}
@@ -38,7 +38,7 @@ use Rattle.partition.specs.Rows.{putRows}
 use Rattle.partition.specs.Append.{fullIf, appendPlan, clearPlan, writtenBy}
 use Rattle.partition.proofs.Laws.Places.{partitions-8}
 use Rattle.partition.proofs.Laws.Rows.{putRows-out}
-use Rattle.partition.proofs.Laws.Append.{over-none}
+use Rattle.partition.proofs.Laws.Rows.{putRows-none}
 use Rattle.partition.proofs.Laws.Written.{append-full, append-written, append-laid}
 use Rattle.partition.proofs.Laws.Written.{clear-full, clear-written, clear-laid}
 use Rattle.admit.specs.Admit.{partitionOf}
@@ -56,12 +56,8 @@ state-8 s vs g = partitions-8 (s .partitions) _ (g .1 .1 .1 .0)
 abbrev pub Carried : List Entry → List ℕ → List ℕ → Outcome → Write → Type 0
 Carried es rs bs out w = Left out (doneWrite w) (putRows (w .row) bs rs) (set es (w .at) (w .entry))
 
-put-none : (n : ℕ) (xs : List ℕ) → putRows n [] xs ≡ xs
-unfolding putRows
-put-none n xs = split (leb (n + 0) (length xs)) (λ t. rw t (over-none n xs)) (λ f. rw f)
-
 put-past : (bs xs : List ℕ) → putRows (length xs) bs xs ≡ xs
-put-past [] xs = put-none (length xs) xs
+put-past [] xs = putRows-none (length xs) xs
 put-past (b ∷ bs) xs = putRows-out (length xs) (b ∷ bs) xs (omega arith)
 
 -- a refusal writes no word
@@ -174,4 +170,5 @@ pub clear-left : (s : State) → length (s .partitions .at) ≡ partitionsMax �
       Left (step (clear i p) (storeOf s rs es)) (doneWrite w) rs (set es (w .at) (w .entry))
 clear-left s n es rs i p = let c = clear-carried s n es rs i p in
     let w = clearWrite s (tableOf es) (length es) (length rs) i p in
-    (c .0, ap (λ (xs : List ℕ). storeOf (w .state) xs (set es (w .at) (w .entry))) (sym (put-none (w .row) rs)) ∙ c .1)
+    (c .0,
+      ap (λ (xs : List ℕ). storeOf (w .state) xs (set es (w .at) (w .entry))) (sym (putRows-none (w .row) rs)) ∙ c .1)

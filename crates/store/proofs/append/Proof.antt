@@ -1,7 +1,8 @@
--- `store::append` meets its contract: it has the shape that lent's `Change.antt` walks.
+-- `store::append` meets its contract: it has the shape that shapes' `Change.antt` walks.
 -- Assumes nothing.
 use mathlib.Core.Bool.{true}
 use lib.ListN.{set}
+use mathlib.Core.List.{[], _∷_}
 use contract.Running.{givenOf, tables, tablesOf}
 use denote.Triple.Spec.{tripleOf}
 use denote.Triple.Table.{entered, cited}
@@ -10,9 +11,10 @@ use Rattle.partition.specs.Rows.{putRows}
 use Rattle.plan_write.specs.Write.{appendWrite}
 use Rattle.store.specs.Kept.{storeOf, Left}
 use Rattle.store.specs.Done.{doneWrite}
-use Rattle.lent.proofs.Shown.{LoadAll}
-use Rattle.lent.proofs.Shape.{Shape, Core, Put, Wrote, Fin}
-use Rattle.lent.proofs.Change.{meets}
+use Rattle.walks.proofs.Shown.{number}
+use Rattle.shapes.proofs.Core.{LoadAll}
+use Rattle.shapes.proofs.Shape.{Shape, Core, Put, Wrote, Fin}
+use Rattle.shapes.proofs.Change.{meets}
 use Rattle.lent.proofs.load_all.Symbol as load-all
 use Rattle.lent.proofs.load_all.Met as load-all-thm
 use Rattle.plan_write.proofs.Types.{write}
@@ -32,7 +34,7 @@ use Rattle.store.proofs.append.Statement as stated
 use Rattle.store.proofs.append.Code as code
 
 abbrev shape : Shape
-shape = record { plan = write; answer = kept; batch = true; count = 2;
+shape = record { plan = write; answer = kept; batch = true; given = number ∷ number ∷ [];
   core = core.name; put = put.name; wr = wr.name; fin = fin.name;
   planOf = appendWrite;
   entriesBy = λ es w. set es (w .at) (w .entry);

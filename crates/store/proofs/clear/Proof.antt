@@ -1,7 +1,8 @@
--- `store::clear` meets its contract: it has the shape that lent's `Change.antt` walks.
+-- `store::clear` meets its contract: it has the shape that shapes' `Change.antt` walks.
 -- Assumes nothing.
 use mathlib.Core.Bool.{false}
 use lib.ListN.{set}
+use mathlib.Core.List.{[], _∷_}
 use contract.Running.{givenOf, tables, tablesOf}
 use denote.Triple.Spec.{tripleOf}
 use denote.Triple.Table.{entered, cited}
@@ -9,9 +10,10 @@ use Rattle.rules.specs.Step.{step, clear as clear-call}
 use Rattle.plan_write.specs.Write.{clearWrite}
 use Rattle.store.specs.Kept.{storeOf, Left}
 use Rattle.store.specs.Done.{doneWrite}
-use Rattle.lent.proofs.Shown.{LoadAll}
-use Rattle.lent.proofs.Shape.{Shape, Core, Put, Wrote, Fin}
-use Rattle.lent.proofs.Change.{meets}
+use Rattle.walks.proofs.Shown.{number}
+use Rattle.shapes.proofs.Core.{LoadAll}
+use Rattle.shapes.proofs.Shape.{Shape, Core, Put, Wrote, Fin}
+use Rattle.shapes.proofs.Change.{meets}
 use Rattle.lent.proofs.load_all.Symbol as load-all
 use Rattle.lent.proofs.load_all.Met as load-all-thm
 use Rattle.plan_write.proofs.Types.{write}
@@ -31,7 +33,7 @@ use Rattle.store.proofs.clear.Statement as stated
 use Rattle.store.proofs.clear.Code as code
 
 abbrev shape : Shape
-shape = record { plan = write; answer = kept; batch = false; count = 2;
+shape = record { plan = write; answer = kept; batch = false; given = number ∷ number ∷ [];
   core = core.name; put = put.name; wr = wr.name; fin = fin.name;
   planOf = clearWrite;
   entriesBy = λ es w. set es (w .at) (w .entry);

@@ -1,12 +1,14 @@
--- `store::create` meets its contract: it has the shape that lent's `Look.antt` walks.
+-- `store::create` meets its contract: it has the shape that shapes' `Look.antt` walks.
 -- Assumes nothing.
+use mathlib.Core.List.{[], _∷_}
 use contract.Running.{givenOf, tables, tablesOf}
 use denote.Triple.Spec.{tripleOf}
 use denote.Triple.Table.{entered, cited}
 use Rattle.rules.specs.Step.{step, create as create-call}
 use Rattle.store.specs.Kept.{storeOf, Left, createKept}
-use Rattle.lent.proofs.Shown.{LoadAll}
-use Rattle.lent.proofs.Look.{Look, Core, meets}
+use Rattle.walks.proofs.Shown.{number}
+use Rattle.shapes.proofs.Core.{LoadAll}
+use Rattle.shapes.proofs.Look.{Look, Core, meets}
 use Rattle.lent.proofs.load_all.Symbol as load-all
 use Rattle.lent.proofs.load_all.Met as load-all-thm
 use Rattle.store.proofs.Types.{kept}
@@ -19,7 +21,7 @@ use Rattle.store.proofs.create.Statement as stated
 use Rattle.store.proofs.create.Code as code
 
 abbrev shape : Look
-shape = record { answer = kept; count = 1; core = core.name; answerOf = createKept;
+shape = record { answer = kept; given = number ∷ []; core = core.name; answerOf = createKept;
   Ends = λ s es rs a r. Left (step (create-call a) (storeOf s rs es)) r rs es;
   ends = λ s g es rs κs t. create-left s es rs (t .0) }
 

@@ -1,6 +1,7 @@
--- `store::purge` meets its contract: it has the shape that lent's `Change.antt` walks.
+-- `store::purge` meets its contract: it has the shape that shapes' `Change.antt` walks.
 -- Assumes nothing.
 use mathlib.Core.Bool.{false}
+use mathlib.Core.List.{[], _∷_}
 use contract.Running.{givenOf, tables, tablesOf}
 use denote.Triple.Spec.{tripleOf}
 use denote.Triple.Table.{entered, cited}
@@ -10,9 +11,10 @@ use Rattle.plan_purge.specs.Purge.{purgePlan, placeOf, newOf}
 use Rattle.store.specs.Kept.{storeOf, Left}
 use Rattle.store.specs.Done.{donePurge}
 use Rattle.lent.specs.Shapes.{saved}
-use Rattle.lent.proofs.Shown.{LoadAll}
-use Rattle.lent.proofs.Shape.{Shape, Core, Put, Wrote, Fin}
-use Rattle.lent.proofs.Change.{meets}
+use Rattle.walks.proofs.Shown.{number}
+use Rattle.shapes.proofs.Core.{LoadAll}
+use Rattle.shapes.proofs.Shape.{Shape, Core, Put, Wrote, Fin}
+use Rattle.shapes.proofs.Change.{meets}
 use Rattle.lent.proofs.load_all.Symbol as load-all
 use Rattle.lent.proofs.load_all.Met as load-all-thm
 use Rattle.plan_purge.proofs.Types.{purge}
@@ -33,7 +35,7 @@ use Rattle.store.proofs.purge.Statement as stated
 use Rattle.store.proofs.purge.Code as code
 
 abbrev shape : Shape
-shape = record { plan = purge; answer = kept; batch = false; count = 1;
+shape = record { plan = purge; answer = kept; batch = false; given = number ∷ [];
   core = core.name; put = put.name; wr = wr.name; fin = fin.name;
   planOf = purgePlan;
   entriesBy = λ es w. saved placeOf newOf es w 64;

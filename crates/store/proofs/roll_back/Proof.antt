@@ -1,6 +1,7 @@
--- `store::roll_back` meets its contract: it has the shape that lent's `Change.antt` walks.
+-- `store::roll_back` meets its contract: it has the shape that shapes' `Change.antt` walks.
 -- Assumes nothing.
 use mathlib.Core.Bool.{false}
+use mathlib.Core.List.{[], _∷_}
 use contract.Running.{givenOf, tables, tablesOf}
 use denote.Triple.Spec.{tripleOf}
 use denote.Triple.Table.{entered, cited}
@@ -9,9 +10,10 @@ use Rattle.plan_rollback.specs.RollBack.{rollBackOf, placeOf, entriesAfter, row
 use Rattle.store.specs.Kept.{storeOf, Left}
 use Rattle.store.specs.Done.{doneRollBack}
 use Rattle.lent.specs.Shapes.{saved}
-use Rattle.lent.proofs.Shown.{LoadAll}
-use Rattle.lent.proofs.Shape.{Shape, Core, Put, Wrote, Fin}
-use Rattle.lent.proofs.Change.{meets}
+use Rattle.walks.proofs.Shown.{number}
+use Rattle.shapes.proofs.Core.{LoadAll}
+use Rattle.shapes.proofs.Shape.{Shape, Core, Put, Wrote, Fin}
+use Rattle.shapes.proofs.Change.{meets}
 use Rattle.lent.proofs.load_all.Symbol as load-all
 use Rattle.lent.proofs.load_all.Met as load-all-thm
 use Rattle.plan_rollback.proofs.Types.{rollBack}
@@ -32,7 +34,7 @@ use Rattle.store.proofs.roll_back.Statement as stated
 use Rattle.store.proofs.roll_back.Code as code
 
 abbrev shape : Shape
-shape = record { plan = rollBack; answer = kept; batch = false; count = 1;
+shape = record { plan = rollBack; answer = kept; batch = false; given = number ∷ [];
   core = core.name; put = put.name; wr = wr.name; fin = fin.name;
   planOf = rollBackOf;
   entriesBy = λ es w. saved placeOf entriesAfter es w 576;

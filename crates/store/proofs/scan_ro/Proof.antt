@@ -1,5 +1,6 @@
--- `store::scan_ro` meets its contract: it has the shape that lent's `Scan.antt` walks.
+-- `store::scan_ro` meets its contract: it has the shape that shapes' `Scan.antt` walks.
 -- Assumes nothing.
+use mathlib.Core.List.{[], _∷_}
 use contract.Running.{givenOf, tables, tablesOf}
 use denote.Triple.Spec.{tripleOf}
 use denote.Triple.Table.{entered, cited}
@@ -7,8 +8,9 @@ use Rattle.rules.specs.Step.{step, scan}
 use Rattle.rules.specs.declared.Reader.the-variants.{Ro}
 use Rattle.plan_scan.specs.Scan.{roLook, copied}
 use Rattle.store.specs.Kept.{storeOf, Showed}
-use Rattle.lent.proofs.Shown.{LoadAll}
-use Rattle.lent.proofs.Scan.{Scan, Core, Wrote, Fin, meets}
+use Rattle.walks.proofs.Shown.{number}
+use Rattle.shapes.proofs.Core.{LoadAll}
+use Rattle.shapes.proofs.Scan.{Scan, Core, Wrote, Fin, meets}
 use Rattle.lent.proofs.load_all.Symbol as load-all
 use Rattle.lent.proofs.load_all.Met as load-all-thm
 use Rattle.plan_scan.proofs.Types.{look}
@@ -27,7 +29,8 @@ use Rattle.store.proofs.scan_ro.Statement as stated
 use Rattle.store.proofs.scan_ro.Code as code
 
 abbrev shape : Scan
-shape = record { plan = look; answer = answer; count = 2; core = core.name; wr = wr.name; fin = fin.name;
+shape = record { plan = look; answer = answer; given = number ∷ number ∷ []; core = core.name; wr = wr.name; fin =
+    fin.name;
   planOf = roLook;
   bytesBy = λ bs w. copied (w .count) (w .bits) bs;
   answerOf = λ w. w .answer;

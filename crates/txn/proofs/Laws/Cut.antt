@@ -5,7 +5,7 @@
 use mathlib.Core.Path.{_≡_, refl, sym, ap, subst, _∙_}
 use mathlib.Core.Bool.{Bool, true, false, not, cond}
 use mathlib.Core.List.{List, [], _∷_, _++_, map}
-use Prim.Native.Nat.{ℕ, zero, suc, _+_, _-_, _≤_, _<_}
+use Prim.Native.Nat.{ℕ, suc, _+_, _-_, _≤_, _<_}
 use native.Mathlib.Numerals.{add-one}
 use native.Mathlib.Omega.{arith}
 use lib.ListN.{length, take, drop, getD, set, replicate, length-append, length-drop, getD-replicate}
@@ -15,11 +15,11 @@ use lib.Seq.{drop-append-add, getD-append-add, getD-drop, getD-take}
 use Rattle.lists.specs.Lists.{keepIf, rises, pad}
 use Rattle.lists.proofs.Laws.Bools.{split}
 use Rattle.lists.proofs.Laws.Order.{rises-split}
-use Rattle.lists.proofs.Laws.Parts.{drop-pad}
+use Rattle.lists.proofs.Laws.Parts.{drop-pad, drop-replicate}
 use Rattle.txn.specs.Records.{cut}
 use Rattle.txn_find.specs.Find.{findFrom}
 use Rattle.txn_find.specs.declared.Found.the-variants.{At}
-use Rattle.txn_find.proofs.Laws.Scan.{length-pad}
+use Rattle.lists.proofs.Laws.Places.{length-pad}
 
 -- ---- the only one that passes: p finds the elements numbered i, and the numbers rise
 
@@ -61,17 +61,12 @@ module _ {A : Type 0} (p : A → Bool) (f : A → ℕ) (i : ℕ) (tells : (x : A
 
 -- ---- taking the places from a up to b out of an array of n records, in place
 
-drop-replicate : {A : Type 0} (k n : ℕ) (z : A) → drop k (replicate n z) ≡ replicate (n - k) z
-drop-replicate zero n z = let e : n - 0 ≡ n = omega arith in rw e
-drop-replicate (suc k) zero z = let e : 0 - suc k ≡ 0 = omega arith in rw e
-drop-replicate (suc k) (suc n) z = let e : suc n - suc k ≡ n - k = omega arith in rw e (drop-replicate k n z)
-
 -- what the array holds in the end
-abbrev pub target : {A : Type 0} → A → List A → ℕ → ℕ → ℕ → List A
-target z xs n a b = pad 32 z (cut a b (take n xs))
+abbrev target : {A : Type 0} → A → List A → ℕ → ℕ → ℕ → ℕ → List A
+target z xs places n a b = pad places z (cut a b (take n xs))
 
-module _ {A : Type 0} (z d : A) (xs : List A) (n a b : ℕ) (len : length xs ≡ 32) (le : n ≤ 32) (ab : a ≤ b)
-    (bn : b ≤ n) where
+module _ {A : Type 0} (z d : A) (xs : List A) (places n a b : ℕ) (len : length xs ≡ places) (le : n ≤ places)
+    (ab : a ≤ b) (bn : b ≤ n) where
   used-length : length (take n xs) ≡ n
   used-length = length-take-le n xs (omega arith)
 
@@ -81,100 +76,113 @@ module _ {A : Type 0} (z d : A) (xs : List A) (n a b : ℕ) (len : length xs ≡
   cut-length : length (cut a b (take n xs)) ≡ n - (b - a)
   cut-length = simp (length-append, front-length, length-drop, used-length) (omega arith)
 
-  target-32 : length (target z xs n a b) ≡ 32
-  target-32 = length-pad 32 z (cut a b (take n xs)) (rw cut-length (omega arith))
+  target-length : length (target z xs places n a b) ≡ places
+  target-length = length-pad places z (cut a b (take n xs)) (rw cut-length (omega arith))
 
-  target-moved : (q : ℕ) → b + q < n → getD (target z xs n a b) (a + q) d ≡ getD xs (b + q) d
+  target-moved : (q : ℕ) → b + q < n → getD (target z xs places n a b) (a + q) d ≡ getD xs (b + q) d
   target-moved q h =
       let c = cut a b (take n xs) in
       let back : getD c (a + q) d ≡ getD (drop b (take n xs)) q d =
             subst (λ (k : ℕ). getD c (k + q) d ≡ getD (drop b (take n xs)) q d) front-length
               (getD-append-add (take a (take n xs)) (drop b (take n xs)) q d) in
-      List·getD-append c (replicate (32 - length c) z) d (a + q) (rw cut-length (omega arith))
+      List·getD-append c (replicate (places - length c) z) d (a + q) (rw cut-length (omega arith))
       ∙ back ∙ getD-drop b (take n xs) q d ∙ getD-take n xs (b + q) d h
 
-  target-clear : (q : ℕ) → n ≤ b + q → a + q < 32 → getD (target z xs n a b) (a + q) d ≡ z
+  target-clear : (q : ℕ) → n ≤ b + q → a + q < places → getD (target z xs places n a b) (a + q) d ≡ z
   target-clear q h l =
-      let c = cut a b (take n xs) in let k = a + q - (n - (b - a)) in
-      let e : a + q ≡ length c + k = (let w = cut-length in omega arith) in
-      ap (λ (i : ℕ). getD (target z xs n a b) i d) e ∙ getD-append-add c (replicate (32 - length c) z) k d
-      ∙ getD-replicate (32 - length c) k z d (let w = cut-length in omega arith)
+      let c = cut a b (take n xs) in let k = a + q - (n - (b - a)) in let w = cut-length in
+      let e : a + q ≡ length c + k = omega arith in
+      rw e (getD-append-add c (replicate (places - length c) z) k d
+        ∙ getD-replicate (places - length c) k z d (omega arith))
 
-  cut-start : xs ≡ take a (target z xs n a b) ++ drop a xs
+  cut-start : xs ≡ take a (target z xs places n a b) ++ drop a xs
   cut-start =
       let c = cut a b (take n xs) in
-      let t : take a (target z xs n a b) ≡ take a xs =
-            take-append-le a c (replicate (32 - length c) z) (rw cut-length (omega arith))
+      let t : take a (target z xs places n a b) ≡ take a xs =
+            take-append-le a c (replicate (places - length c) z) (rw cut-length (omega arith))
             ∙ take-append-le a (take a (take n xs)) (drop b (take n xs)) (rw front-length (omega arith))
             ∙ take-take a a (take n xs) (omega arith) ∙ take-take a n xs (omega arith) in
       rw t (sym (take-append-drop a xs))
 
-  cut-step : (j : ℕ) (v : A) → j < 32 → getD (target z xs n a b) j d ≡ v
-      → set (take j (target z xs n a b) ++ drop j xs) j v ≡ take (j + 1) (target z xs n a b) ++ drop (j + 1) xs
+  cut-step : (j : ℕ) (v : A) → j < places → getD (target z xs places n a b) j d ≡ v
+      → set (take j (target z xs places n a b) ++ drop j xs) j v
+        ≡ take (j + 1) (target z xs places n a b) ++ drop (j + 1) xs
   cut-step j v h e =
-      let t = target z xs n a b in
-      rw (add-one j, drop-cons xs j d (omega arith), take-suc t j d (rw target-32 h), e)
-        (set-at (take j t) (getD xs j d) (drop (suc j) xs) v j (length-take-le j t (rw target-32 (omega arith)))
+      let t = target z xs places n a b in
+      rw (add-one j, drop-cons xs j d (omega arith), take-suc t j d (rw target-length h), e)
+        (set-at (take j t) (getD xs j d) (drop (suc j) xs) v j
+          (length-take-le j t (rw target-length (omega arith)))
         ∙ sym (append-snoc (take j t) v (drop (suc j) xs)))
 
-  cut-end : xs ≡ pad 32 z (take n xs) → take n (target z xs n a b) ++ drop n xs ≡ target z xs n a b
+  cut-end : xs ≡ pad places z (take n xs)
+    → take n (target z xs places n a b) ++ drop n xs ≡ target z xs places n a b
   cut-end tidy =
-      let c = cut a b (take n xs) in let t = target z xs n a b in
-      let g : n ≡ length c + (b - a) = (let w = cut-length in omega arith) in
-      let after : drop n t ≡ replicate (32 - length c - (b - a)) z =
-            ap (λ (k : ℕ). drop k t) g ∙ drop-append-add c (replicate (32 - length c) z) (b - a)
-            ∙ drop-replicate (b - a) (32 - length c) z in
-      let was : drop n xs ≡ replicate (32 - n) z =
+      let c = cut a b (take n xs) in let t = target z xs places n a b in let w = cut-length in
+      let g : n ≡ length c + (b - a) = omega arith in
+      let after : drop n t ≡ replicate (places - length c - (b - a)) z =
+            ap (λ (k : ℕ). drop k t) g ∙ drop-append-add c (replicate (places - length c) z) (b - a)
+            ∙ drop-replicate (b - a) (places - length c) z in
+      let was : drop n xs ≡ replicate (places - n) z =
             ap (λ l. drop n l) tidy
-            ∙ subst (λ (k : ℕ). drop k (pad 32 z (take n xs)) ≡ replicate (32 - k) z) used-length
-              (drop-pad 32 z (take n xs)) in
-      let same : 32 - length c - (b - a) ≡ 32 - n = (let w = cut-length in omega arith) in
-      rw was (ap (λ (k : ℕ). take n t ++ replicate k z) (sym same) ∙ (rw (← after) (take-append-drop n t)))
+            ∙ subst (λ (k : ℕ). drop k (pad places z (take n xs)) ≡ replicate (places - k) z) used-length
+              (drop-pad places z (take n xs)) in
+      let same : places - length c - (b - a) ≡ places - n = omega arith in
+      rw (was, ← same, ← after) (take-append-drop n t)
 
 -- ---- the loop: up to place j the array is what it is to be, and after it what it was
 
-pub record Cutting {A : Type 0} (z : A) (xs : List A) (n a b j : ℕ) (at : List A) : Type 0 where
+pub record Cutting {A : Type 0} (z : A) (xs : List A) (places n a b j : ℕ) (at : List A) : Type 0 where
   pub low : a ≤ j
   pub high : j ≤ n
-  pub room : n ≤ 32
-  pub len : length xs ≡ 32
+  pub room : n ≤ places
+  pub len : length xs ≡ places
   pub order : a ≤ b
   pub fits : b ≤ n
-  pub held : at ≡ take j (target z xs n a b) ++ drop j xs
+  pub tidy : xs ≡ pad places z (take n xs)
+  pub held : at ≡ take j (target z xs places n a b) ++ drop j xs
 
-module _ {A : Type 0} (z d : A) (xs : List A) (n a b : ℕ) where
-  pub cutting-start : length xs ≡ 32 → n ≤ 32 → a ≤ b → b ≤ n → Cutting z xs n a b a xs
-  cutting-start len le ab bn = record {
-    low = omega arith; high = omega arith; room = le; len = len; order = ab; fits = bn;
-    held = cut-start z d xs n a b len le ab bn }
+-- d is what a read past the end would give
+module _ {A : Type 0} {z : A} {xs : List A} {places n a b : ℕ} (d : A) where
+  pub cutting-start : length xs ≡ places → n ≤ places → a ≤ b → b ≤ n → xs ≡ pad places z (take n xs)
+    → Cutting z xs places n a b a xs
+  cutting-start len le ab bn tidy = record {
+    low = omega arith; high = omega arith; room = le; len = len; order = ab; fits = bn; tidy = tidy;
+    held = cut-start z d xs places n a b len le ab bn }
 
-  module _ {j : ℕ} {at : List A} (c : Cutting z xs n a b j at) where
-    step : (v : A) → j < n → getD (target z xs n a b) j d ≡ v → Cutting z xs n a b (j + 1) (set at j v)
+  module _ {j : ℕ} {at : List A} (c : Cutting z xs places n a b j at) where
+    step : (v : A) → j < n → getD (target z xs places n a b) j d ≡ v → Cutting z xs places n a b (j + 1) (set at j v)
     step v l e = let w = c .low in let r = c .room in record {
       low = omega arith; high = omega arith; room = r; len = c .len; order = c .order; fits = c .fits;
-      held = rw (c .held) (cut-step z d xs n a b (c .len) r (c .order) (c .fits) j v (omega arith) e) }
+      tidy = c .tidy;
+      held = rw (c .held) (cut-step z d xs places n a b (c .len) r (c .order) (c .fits) j v (omega arith) e) }
+
+    -- the places from j on are as they were
+    behind : (k : ℕ) → getD at (j + k) d ≡ getD xs (j + k) d
+    behind k =
+        let h = c .high in let r = c .room in let t = target z xs places n a b in
+        let e : length (take j t) ≡ j = length-take-le j t
+              (rw (target-length z d xs places n a b (c .len) r (c .order) (c .fits)) (omega arith)) in
+        rw (c .held) (subst (λ (i : ℕ). getD (take j t ++ drop j xs) (i + k) d ≡ getD (drop j xs) k d) e
+          (getD-append-add (take j t) (drop j xs) k d) ∙ getD-drop j xs k d)
 
     -- one place: the record from gap places on, or none
-    pub cutting-move : j + (b - a) < n → Cutting z xs n a b (j + 1) (set at j (getD xs (j + (b - a)) d))
+    pub cutting-move : j + (b - a) < n → Cutting z xs places n a b (j + 1) (set at j (getD at (j + (b - a)) d))
     cutting-move l =
-        let w = c .low in let o = c .order in let q = j - a in
-        let e : a + q ≡ j = omega arith in let g : b + q ≡ j + (b - a) = omega arith in
-        step (getD xs (j + (b - a)) d) (omega arith)
-          (sym (ap (λ (k : ℕ). getD (target z xs n a b) k d) e)
-            ∙ target-moved z d xs n a b (c .len) (c .room) o (c .fits) q (omega arith)
-            ∙ ap (λ (k : ℕ). getD xs k d) g)
+        let w = c .low in let o = c .order in
+        let e : a + (j - a) ≡ j = omega arith in let g : b + (j - a) ≡ j + (b - a) = omega arith in
+        step (getD at (j + (b - a)) d) (omega arith)
+          ((rw (e, g) at (target-moved z d xs places n a b (c .len) (c .room) o (c .fits) (j - a) (omega arith)))
+          ∙ sym (behind (b - a)))
 
-    pub cutting-clear : n ≤ j + (b - a) → j < n → Cutting z xs n a b (j + 1) (set at j z)
+    pub cutting-clear : n ≤ j + (b - a) → j < n → Cutting z xs places n a b (j + 1) (set at j z)
     cutting-clear l k =
-        let w = c .low in let o = c .order in let r = c .room in let q = j - a in
-        let e : a + q ≡ j = omega arith in
-        step z k (sym (ap (λ (i : ℕ). getD (target z xs n a b) i d) e)
-          ∙ target-clear z d xs n a b (c .len) r o (c .fits) q (omega arith) (omega arith))
+        let w = c .low in let o = c .order in let r = c .room in let e : a + (j - a) ≡ j = omega arith in
+        step z k
+          (rw e at (target-clear z d xs places n a b (c .len) r o (c .fits) (j - a) (omega arith) (omega arith)))
 
-    pub cutting-end : n ≤ j → xs ≡ pad 32 z (take n xs)
-      → (at ≡ target z xs n a b) × (n - (b - a) ≡ length (cut a b (take n xs)))
-    cutting-end l tidy =
+    pub cutting-end : n ≤ j
+      → (at ≡ target z xs places n a b) × (n - (b - a) ≡ length (cut a b (take n xs)))
+    cutting-end l =
         let h = c .high in let e : j ≡ n = omega arith in
-        (c .held ∙ ap (λ (k : ℕ). take k (target z xs n a b) ++ drop k xs) e
-          ∙ cut-end z d xs n a b (c .len) (c .room) (c .order) (c .fits) tidy,
-        sym (cut-length z d xs n a b (c .len) (c .room) (c .order) (c .fits)))
+        ((rw e at (c .held)) ∙ cut-end z d xs places n a b (c .len) (c .room) (c .order) (c .fits) (c .tidy),
+        sym (cut-length z d xs places n a b (c .len) (c .room) (c .order) (c .fits)))

@@ -1,20 +1,19 @@
 -- Where the epochs rise, settling drops the records that wait before the first open one, and LCE is the last
 -- of their epochs.
 -- Definitions: specs/Close.antt; rules/specs/Close.antt.
--- In order: LCE, the records kept, the pass, the manager settled, where the first record stays open.
+-- In order: LCE, the records kept, the manager settled, where the first record stays open.
 -- Assumes nothing.
-use mathlib.Core.Path.{_≡_, refl, sym, ap, _∙_}
+use mathlib.Core.Path.{_≡_, refl, sym, _∙_}
 use mathlib.Core.Bool.{true, false, not}
 use mathlib.Core.List.{List, [], _∷_, foldr, List·Memᴰ·head as here}
-use Prim.Native.Nat.{ℕ, zero, suc, _+_, _≤_, _<_, max}
+use Prim.Native.Nat.{ℕ, zero, suc, _≤_, _<_, max}
 use native.Mathlib.Omega.{arith}
 use lib.ListN.{length, drop, set}
-use lib.Seq.{length-take-le}
 use borrow.Author.Tests.{lt-ltb, le-ltb, le-leb, lt-leb}
-use Rattle.lists.specs.Lists.{keepIf, rises, pad}
+use Rattle.lists.specs.Lists.{keepIf, rises}
 use Rattle.lists.proofs.Laws.Bools.{split, and-false}
 use Rattle.lists.proofs.Laws.Order.{rises-split}
-use Rattle.rules.specs.Manager.{noRw, isOpen, writersOf, withLce}
+use Rattle.rules.specs.Manager.{isOpen, withClock, withWriters, withLce}
 use Rattle.rules.specs.Close.{unblocked, settledLce, settled}
 use Rattle.rules.specs.declared.Clock.{Clock}
 use Rattle.rules.specs.declared.RwTxn.{RwTxn}
@@ -22,8 +21,8 @@ use Rattle.rules.specs.declared.Manager.{Manager}
 use Rattle.rules.proofs.Laws.Manager.{epochs, WriterFacts, status-waits}
 use Rattle.rules.proofs.Laws.Close.{reached, kept}
 use Rattle.txn_sound.proofs.Laws.Sound.{none-below}
-use Rattle.txn.specs.Records.{cut, Tidy}
-use Rattle.txn_close.specs.Close.{lead, runLce, writersWith, RisingOf}
+use Rattle.txn.specs.Records.{cut}
+use Rattle.txn_close.specs.Close.{lead, runLce}
 
 -- ---- LCE
 
@@ -64,7 +63,7 @@ module _ (hi : ℕ) where
           let ih = run-from ts (t .epoch) (s .rest) (λ e. h e ∙ rw n) in
           rw (n, clear) (max-base b (t .epoch) (epochs (keepIf (reached all) ts)) (omega arith) ∙ ih))
 
-  pub settled-run : (lce : ℕ) (ts : List RwTxn) → rises lce hi (epochs ts) ≡ true
+  settled-run : (lce : ℕ) (ts : List RwTxn) → rises lce hi (epochs ts) ≡ true
     → settledLce lce ts ≡ runLce lce ts
   unfolding settledLce
   settled-run lce ts r = run-from ts ts lce r (λ e. refl)
@@ -84,7 +83,7 @@ module _ (hi : ℕ) where
       let more = all-stay ts (t .epoch) b (s .rest) (omega arith) in
       split (isOpen t) (λ o. rw (o, more)) (λ n. rw (n, lt-ltb b (t .epoch) (omega arith), more))
 
-  pub kept-run : (ts : List RwTxn) (b : ℕ) → rises b hi (epochs ts) ≡ true
+  kept-run : (ts : List RwTxn) (b : ℕ) → rises b hi (epochs ts) ≡ true
     → keepIf (kept (runLce b ts)) ts ≡ drop (lead ts) ts
   kept-run [] b r = refl
   kept-run (t ∷ ts) b r =
@@ -93,25 +92,6 @@ module _ (hi : ℕ) where
       (λ o. let more = all-stay ts (t .epoch) b (s .rest) (omega arith) in rw (o, more))
       (λ n. let ih = kept-run ts (t .epoch) (s .rest) in let up = run-up ts (t .epoch) (s .rest) in
         rw (n, le-ltb (runLce (t .epoch) ts) (t .epoch) up) ih)
-
--- ---- the pass: at place k with LCE last, the pass over the records in use is the pass over what is left
-
-pub record Reaching (lce : ℕ) (ts : List RwTxn) (last k : ℕ) : Type 0 where
-  pub lce-left : runLce lce ts ≡ runLce last (drop k ts)
-  pub lead-left : lead ts ≡ k + lead (drop k ts)
-
-module _ {lce : ℕ} {ts : List RwTxn} {last k : ℕ} (r : Reaching lce ts last k) where
-  pub reach-open : (t : RwTxn) (rest : List RwTxn) → drop k ts ≡ t ∷ rest → isOpen t ≡ true
-    → (runLce lce ts ≡ last) × (lead ts ≡ k)
-  reach-open t rest e o = (r .lce-left ∙ rw (e, o), r .lead-left ∙ rw (e, o) (omega arith))
-
-  pub reach-on : (t : RwTxn) → drop k ts ≡ t ∷ drop (k + 1) ts → isOpen t ≡ false
-    → Reaching lce ts (t .epoch) (k + 1)
-  reach-on t e n = record { lce-left = r .lce-left ∙ rw (e, n); lead-left = r .lead-left
-    ∙ rw (e, n) (omega arith) }
-
-  pub reach-end : drop k ts ≡ [] → (runLce lce ts ≡ last) × (lead ts ≡ k)
-  reach-end e = (r .lce-left ∙ rw e, r .lead-left ∙ rw e (omega arith))
 
 -- ---- the manager settled
 
@@ -124,30 +104,15 @@ lead-none : (lce : ℕ) (ts : List RwTxn) → lead ts ≡ 0 → runLce lce ts �
 lead-none lce [] e = refl
 lead-none lce (t ∷ ts) e = split (isOpen t) (λ o. rw o) (λ n. let z = rw n at e in absurd (omega arith))
 
-module _ (m : Manager) (r : RisingOf m) where
-  pub settled-runs : settled (writersOf m) m ≡ record {
-      clock = withLce (runLce (m .clock .lce) (writersOf m)) (m .clock);
-      writers = writersWith (drop (lead (writersOf m)) (writersOf m)); readers = m .readers }
+module _ (m : Manager) (ts : List RwTxn) (r : rises (m .clock .lce) (m .clock .ec) (epochs ts) ≡ true) where
+  pub settled-runs : settled ts m
+    ≡ withClock (withLce (runLce (m .clock .lce) ts) (m .clock)) (withWriters (drop (lead ts) ts) m)
   unfolding settled
-  settled-runs =
-      let ts = writersOf m in let lce = m .clock .lce in
-      let to = settled-run (m .clock .ec) lce ts r in let left = kept-run (m .clock .ec) ts lce r in
-      let put = ap (λ (n : ℕ). keepIf (kept n) ts) to ∙ left in λ i. record {
-        clock = withLce (to i) (m .clock); writers = writersWith (put i); readers = m .readers }
+  settled-runs = rw (settled-run (m .clock .ec) (m .clock .lce) ts r, kept-run (m .clock .ec) ts (m .clock .lce) r)
 
   -- nothing waited before the first open one
-  pub settled-still : Tidy m → length (m .writers .at) ≡ 32 → m .writers .count ≤ 32 → lead (writersOf m) ≡ 0
-      → m ≡ settled (writersOf m) m
-  settled-still t len le e =
-      let ts = writersOf m in
-      let l : length ts ≡ m .writers .count =
-        length-take-le (m .writers .count) (m .writers .at) (omega arith) in
-      let z : drop (lead ts) ts ≡ ts = ap (λ (k : ℕ). drop k ts) e in
-      (λ i. record {
-        clock = withLce (sym (lead-none (m .clock .lce) ts e) i) (m .clock);
-        writers = record { at = (t ∙ ap (pad 32 noRw) (sym z)) i; count = (sym l ∙ ap length (sym z)) i };
-          readers = m .readers })
-      ∙ sym settled-runs
+  pub settled-still : lead ts ≡ 0 → withWriters ts m ≡ settled ts m
+  settled-still e = sym (settled-runs ∙ rw (lead-none (m .clock .lce) ts e, e))
 
 -- ---- where a record behind the first is closed nothing is reached
 

@@ -4,11 +4,5 @@ use borrow.Author.Needs.{needs}
 use Rattle.txn_find.proofs.no_rw.Statement.{statement}
 use Rattle.txn_find.proofs.no_rw.Tie as tie
 
-no-deps-requires : tie.Need-no-deps-requires
-no-deps-requires c κs = search needs
-
-returns : tie.Need-returns
-returns c = rw (c .no-deps .ensures)
-
 pub no-rw-spec : {M : Type 1} → statement M
-no-rw-spec = tie.close (tie.spec no-deps-requires returns)
+no-rw-spec = tie.close (tie.spec (λ c κs. search needs) (λ c. rw (c .no-deps .ensures)))

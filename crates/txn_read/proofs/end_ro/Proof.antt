@@ -1,83 +1,65 @@
 -- Soundness, the place of the transaction; then it is taken out.
 -- Assumes nothing.
-use mathlib.Core.Path.{sym, _∙_}
-use borrow.Author.Tests.{not-true, not-false}
+use mathlib.Core.Path.{ap, _∙_}
+use native.Mathlib.Omega.{arith}
+use borrow.Author.Needs.{needs}
 use Rattle.lists.proofs.Laws.Bools.{and-right}
+use Rattle.lists.proofs.Laws.Branches.{said-yes, said-no}
 use Rattle.rules.specs.Calls.{endRoAnswer}
 use Rattle.rules.specs.WellFormed.{managerOk}
-use Rattle.txn_find.proofs.Laws.Places.{manager-readers-32}
-use Rattle.txn_find.proofs.Laws.Find.{reader-stands, no-reader}
-use Rattle.txn.proofs.Laws.Records.{readers-tidy, readers-room}
-use Rattle.txn_read.proofs.Laws.ReadOnly.{reader-place, end-is}
-use borrow.Author.Needs.{needs}
+use Rattle.rules.specs.declared.Answer.the-variants.{EndedRo}
+use Rattle.rules.specs.declared.Manager.{Manager}
+use Rattle.rules.proofs.Laws.Manager.{manager-facts}
+use Rattle.txn_find.proofs.Laws.Find.{reader-stands, reader-none}
+use Rattle.txn.specs.declared.Managed.{Managed}
+use Rattle.txn.proofs.Laws.Records.{readers-tidy}
+use Rattle.txn_read.proofs.Laws.ReadOnly.{end-is}
 use Rattle.txn_read.proofs.end_ro.Statement.{statement}
 use Rattle.txn_read.proofs.end_ro.Tie as tie
-
-is-sound-requires : tie.Need-is-sound-requires
-is-sound-requires c κs = search needs
-
-refused-requires : tie.Need-refused-requires
-refused-requires c κs = search needs
-
-returns : tie.Need-returns
-unfolding endRoAnswer
-returns c =
-    let c2 = c .before .before in
-    c .refused .ensures ∙ rw (sym (c2 .is-sound .ensures) ∙ not-true _ (c .before .if1 .taken))
-
-find-reader-requires : tie.Need-find-reader-requires
-find-reader-requires c κs = search needs
-
-enum-known-j : tie.Need-enum-known-j
-enum-known-j c = search needs
-
-enum-told : tie.Need-enum-told
-enum-told c = search needs
-
-refused-requires-2 : tie.Need-refused-requires-2
-refused-requires-2 c κs = search needs
 
 returns-2 : tie.Need-returns-2
 unfolding endRoAnswer
 returns-2 c =
-    let c3 = c .before .before .before in let c4 = c3 .before in let c5 = c4 .before in
-    let sound = sym (c5 .is-sound .ensures) ∙ not-false _ (c4 .if1 .left) in
-    let s = c5 .before .args in
-    c .refused2 .ensures
-      ∙ rw (sound, no-reader (s .t) (s .m .readers)
-      (sym (c3 .find-reader .ensures) ∙ c .before .enum-told .given .1))
+    let f = c .before .before .before in let k = f .before in
+    c .refused2 .ensures ∙ rw (said-yes (k .before .is-sound .ensures) (k .if1 .left),
+      reader-none (k .before .before .args .m) _ (f .find-reader .ensures) (c .before .enum-told .given .1) .any)
 
-ended-ro-requires : tie.Need-ended-ro-requires
-ended-ro-requires c κs =
-    let c3 = c .before .before .before in let c4 = c3 .before in let c5 = c4 .before in
-    let sound = sym (c5 .is-sound .ensures) ∙ not-false _ (c4 .if1 .left) in
-    let s = c5 .before in let m = s .args .m in let len = manager-readers-32 m _ (s .good .0) in
-    let ok = and-right (s .args .rest) (managerOk m) sound in
-    ((reader-place m ok len (s .args .t) _ (sym (c3 .find-reader .ensures) ∙ c .before .j .given .1),
-      readers-room m ok), readers-tidy m ok len)
+cut-readers-requires : tie.Need-cut-readers-requires
+cut-readers-requires c κs =
+    let f = c .before .before .before in let k = f .before in let s = k .before .before in let m = s .args .m in
+    let ok = and-right (s .args .rest) (managerOk m) (said-yes (k .before .is-sound .ensures) (k .if1 .left)) in
+    let p = reader-stands m _ (s .good .0) (f .find-reader .ensures) (c .before .j .given .1) .below in
+    let r = manager-facts m ok .readers-room in
+    ((omega arith, omega arith, r), readers-tidy m ok (s .good .0))
+
+-- closed, with m after it
+abbrev ended : Manager → Managed
+ended m = record { answer = EndedRo (m .readers .count); manager = m }
 
 returns-3 : tie.Need-returns-3
 unfolding endRoAnswer
 returns-3 c =
-    let c4 = c .before .before .before .before in let c5 = c4 .before in let c6 = c5 .before in
-    let sound = sym (c6 .is-sound .ensures) ∙ not-false _ (c5 .if1 .left) in
-    let s = c6 .before in let m = s .args .m in let len = manager-readers-32 m _ (s .good .0) in
-    let ok = and-right (s .args .rest) (managerOk m) sound in
-    let at = sym (c4 .find-reader .ensures) ∙ c .before .before .j .given .1 in
-    let p = reader-stands (s .args .t) (m .readers) _ len at in
-    rw (c .ended-ro .ensures ∙ end-is m ok len (s .args .t) _ at, sound, p .any)
+    let j = c .before .before in let f = j .before .before in let k = f .before in let s = k .before .before in
+    let m = s .args .m in let sound = said-yes (k .before .is-sound .ensures) (k .if1 .left) in
+    let w = end-is m (and-right (s .args .rest) (managerOk m) sound) _ (f .find-reader .ensures) (j .j .given .1) in
+    rw (c .cut-readers .ensures) (ap ended w
+      ∙ rw (sound, reader-stands m _ (s .good .0) (f .find-reader .ensures) (j .j .given .1) .any))
 
 pub end-ro-spec : {M : Type 1} → statement M
+unfolding endRoAnswer
 end-ro-spec =
     tie.close
     (tie.spec
-    is-sound-requires
-    refused-requires
-    returns
-    find-reader-requires
-    enum-known-j
-    enum-told
-    refused-requires-2
+    (λ c κs. search needs)
+    (λ c κs. search needs)
+    (λ c. c .refused .ensures ∙ rw (said-no (c .before .before .is-sound .ensures) (c .before .if1 .taken)))
+    (λ c κs. search needs)
+    (λ c. search needs)
+    (λ c. search needs)
+    (λ c κs. search needs)
     returns-2
-    ended-ro-requires
+    (λ c. let f = c .before .before .before in let s = f .before .before .before in
+      omega (arith,
+        reader-stands (s .args .m) _ (s .good .0) (f .find-reader .ensures) (c .before .j .given .1) .below))
+    cut-readers-requires
     returns-3)

@@ -3,62 +3,32 @@
 -- number of places left.
 -- Assumes nothing.
 use mathlib.Core.Path.{_≡_, refl, sym, _∙_}
-use Prim.Native.Nat.{_≤_, _-_, min}
-use native.Mathlib.Omega.{arith}
 use mathlib.Core.List.{map, foldr}
-use lib.ListN.{length, take, drop}
+use Prim.Native.Nat.{_-_, min}
+use native.Mathlib.Omega.{arith}
+use lib.ListN.{take, drop}
+use borrow.Author.Needs.{needs}
+use Rattle.lists.proofs.Laws.Lowest.{lowest-next}
+use Rattle.lists.proofs.Laws.Places.{Scan, scan-start, scan-on, scan-end}
+use Rattle.rules.specs.Limits.{readersMax}
 use Rattle.rules.specs.Manager.{noRo}
 use Rattle.rules.specs.declared.RoTxn.{RoTxn}
 use Rattle.txn_find.proofs.Laws.Places.{readers-32}
-use Rattle.txn_find.proofs.Laws.Scan.{used-end}
-use Rattle.txn_safe.proofs.Laws.Lowest.{lowest-next}
-use borrow.Author.Needs.{needs}
 use Rattle.txn_safe.proofs.under_readers.Statement.{statement}
 use Rattle.txn_safe.proofs.under_readers.Tie as tie
 
 abbrev Inv-loop : tie.InvT-loop
-Inv-loop top ps n low₀ i₀ low i =
-    (i ≤ n) × (n ≡ min (ps .count) 32) × (length (ps .at) ≡ 32)
+Inv-loop top ps n low₀ i₀ low i = Scan (ps .at) (ps .count) readersMax n i
     × (foldr min top (map (λ (p : RoTxn). p .epoch) (take (ps .count) (ps .at)))
-       ≡ foldr min low (map (λ p. p .epoch) (drop i (take (ps .count) (ps .at)))))
+      ≡ foldr min low (map (λ p. p .epoch) (drop i (take (ps .count) (ps .at)))))
 
 abbrev μ-loop : tie.MeasureT-loop
 μ-loop top ps n low₀ i₀ low i = n - i
 
-least-requires : tie.Need-least-requires Inv-loop μ-loop
-least-requires c κs = omega arith
-
-loop-holds : tie.Need-loop-holds Inv-loop μ-loop
-loop-holds c = (omega arith, c .least .ensures, readers-32 (c .before .args .t1) _ (c .before .good .0), refl)
-
-mul-lower : tie.Need-mul-lower Inv-loop μ-loop
-mul-lower c = omega arith
-
-element-copy-out-lower : tie.Need-element-copy-out-lower Inv-loop μ-loop
-element-copy-out-lower c = omega arith
-
-lower-requires : tie.Need-lower-requires Inv-loop μ-loop
-lower-requires c κs = search needs
-
-add-i : tie.Need-add-i Inv-loop μ-loop
-add-i c = omega arith
-
-loop-less : tie.Need-loop-less Inv-loop μ-loop
-loop-less c = omega arith
-
 loop-again : tie.Need-loop-again Inv-loop μ-loop
-loop-again c =
-    let c2 = c .before .before in let c4 = c2 .before .before in
-    let a = c2 .loop in let s = c4 .args in
-    (omega arith, a .inv .1, a .inv .2,
-     a .inv .3 ∙ lowest-next (s .t1 .at) (s .t1 .count) 32 (a .inv .2) noRo (a .i) (omega arith) (a .low)
-       (λ p. p .epoch) ∙ rw (c .lower .ensures))
-
-returns : tie.Need-returns Inv-loop μ-loop
-returns c =
-    let c3 = c .before .before .before in
-    let a = c .before .loop in let s = c3 .args in
-    sym (a .inv .3 ∙ rw (used-end (s .t1 .at) (s .t1 .count) 32 (a .inv .2) (a .i) (omega arith)))
+loop-again c = let l = c .before .before .loop in
+    (scan-on (l .inv .0) (omega arith), l .inv .1
+      ∙ lowest-next (l .inv .0) noRo (omega arith) (l .low) (λ p. p .epoch) ∙ rw (c .lower .ensures))
 
 pub under-readers-spec : {M : Type 1} → statement M
 under-readers-spec =
@@ -66,12 +36,12 @@ under-readers-spec =
     (tie.spec
     Inv-loop
     μ-loop
-    least-requires
-    loop-holds
-    mul-lower
-    element-copy-out-lower
-    lower-requires
-    add-i
-    loop-less
+    (λ c κs. omega arith)
+    (λ c. (scan-start (readers-32 (c .before .args .t1) _ (c .before .good .0)) (c .in-use .ensures), refl))
+    (λ c. omega arith)
+    (λ c. omega arith)
+    (λ c κs. search needs)
+    (λ c. omega arith)
+    (λ c. omega arith)
     loop-again
-    returns)
+    (λ c. let l = c .before .loop .inv in sym (l .1 ∙ rw (scan-end (l .0) (omega arith)))))

@@ -1,45 +1,51 @@
 -- One pass over the records tests what the rules ask of them. Definitions: specs/Sound.antt;
 -- rules/specs/WellFormed.antt.
--- In order: conjunctions, read-write records, read-only records.
+-- In order: records in turn, read-write records, read-only records.
 -- Assumes nothing.
 use mathlib.Core.Path.{_≡_, refl, sym, _∙_}
 use mathlib.Core.Bool.{Bool, true, false, _&&_, _||_}
-use mathlib.Core.List.{List, [], _∷_}
+use mathlib.Core.List.{List, [], _∷_, map}
 use Prim.Native.Nat.{ℕ, _<_, _≤_}
 use native.Mathlib.Omega.{arith}
 use lib.Dec.{ltb, leb}
 use borrow.Author.Tests.{ltb-true, lt-ltb, le-ltb}
 use Rattle.lists.specs.Lists.{anyOf, allOf, rises}
-use Rattle.lists.proofs.Laws.Bools.{split, and-false, or-false}
+use Rattle.lists.proofs.Laws.Bools.{split, and-false, and-assoc, or-false}
+use Rattle.lists.proofs.Laws.Filter.{allOf-and}
 use Rattle.lists.proofs.Laws.Order.{rises-split}
-use Rattle.rules.specs.Manager.{isOpen}
+use Rattle.rules.specs.Manager.{isOpen, writersOf, readersOf}
 use Rattle.rules.specs.WellFormed.{depsOk, statusOk}
 use Rattle.rules.specs.declared.Clock.{Clock}
 use Rattle.rules.specs.declared.RwTxn.{RwTxn}
-use Rattle.rules.specs.declared.RoTxn.{RoTxn}
+use Rattle.rules.specs.declared.Manager.{Manager}
 use Rattle.rules.proofs.Laws.Manager.{epochs, tickets, opensBelow}
-use Rattle.txn_sound.specs.Sound.{waitsOk, writerOk, writersRanked, readerOk, readersRanked}
+use Rattle.txn_sound.specs.Sound.{ranked, waitsOk, writersRanked, readersRanked}
 
--- ---- conjunctions: a record's tests and those of the records after it, put together the other way
+-- ---- records in turn
 
 -- w and v are the same test where a and r hold
-writer-tests : (a b w d r s e v : Bool) → (a ≡ true → r ≡ true → w ≡ v)
-    → (a && b && w && d) && (r && s && e) ≡ (a && b && r) && (v && s) && (d && e)
-writer-tests false b w d r s e v h = refl
-writer-tests true false w d r s e v h = refl
-writer-tests true true w d false s e v h = and-false (w && d)
-writer-tests true true w d true s e v h = rw (h refl refl) (swap v d)
-  where
-    swap : (x y : Bool) → (x && y) && (s && e) ≡ (x && s) && (y && e)
-    swap false y = refl
-    swap true true = refl
-    swap true false = sym (and-false s)
+turn : (a b w r s v : Bool) → (a ≡ true → r ≡ true → w ≡ v) → (a && b && w) && (r && s) ≡ (a && b && r) && (v && s)
+turn false b w r s v h = refl
+turn true false w r s v h = refl
+turn true true w false s v h = and-false w
+turn true true w true s v h = rw (h refl refl)
 
-reader-tests : (a b l h r s : Bool) → (a && b && l && h) && (r && s) ≡ (a && b && r) && ((l && h) && s)
-reader-tests false b l h r s = refl
-reader-tests true false l h r s = refl
-reader-tests true true l h true s = refl
-reader-tests true true l h false s = and-false (l && h)
+-- Holds is what is known of the state s that the elements before xs, up to number lo, have left: there ok and
+-- pass agree
+module _ {A S : Type 0} (num : A → ℕ) (hi : ℕ) (ok : S → A → Bool) (on : S → A → S) (pass : A → Bool)
+    (Holds : ℕ → S → List A → Type 0)
+    (next : (lo : ℕ) (s : S) (x : A) (xs : List A) → lo < num x → Holds lo s (x ∷ xs) → Holds (num x) (on s x) xs)
+    (agree : (lo : ℕ) (s : S) (x : A) (xs : List A) → lo < num x → rises (num x) hi (map num xs) ≡ true
+      → Holds lo s (x ∷ xs) → ok s x ≡ pass x) where
+  ranked-is : (lo : ℕ) (s : S) (xs : List A) → Holds lo s xs
+    → ranked num hi ok on lo s xs ≡ rises lo hi (map num xs) && allOf pass xs
+  ranked-is lo s [] g = refl
+  ranked-is lo s (x ∷ xs) g = split (ltb lo (num x))
+    (λ a. let l = ltb-true lo (num x) a in
+      rw (ranked-is (num x) (on s x) xs (next lo s x xs l g))
+        (turn (ltb lo (num x)) (ltb (num x) hi) (ok s x) (rises (num x) hi (map num xs)) (allOf pass xs) (pass x)
+          (λ _ r. agree lo s x xs l r g)))
+    (λ n. rw n)
 
 -- ---- read-write records
 
@@ -77,34 +83,22 @@ module _ (c : Clock) (all : List RwTxn) where
               (or-false seen) in
       rw before
 
-  ranked-from : (lo : ℕ) (seen : Bool) (ts : List RwTxn) → Seen lo seen ts
-      → writersRanked lo c seen ts ≡ rises lo (c .ec) (epochs ts) && allOf (statusOk all) ts
-        && allOf (depsOk (c .lse)) ts
-  unfolding writerOk
-  ranked-from lo seen [] g = refl
-  ranked-from lo seen (t ∷ ts) g = split (ltb lo (t .epoch))
-    (λ a. let l = ltb-true lo (t .epoch) a in
-      let ih = ranked-from (t .epoch) (seen || isOpen t) ts (seen-next lo seen t ts l g) in
-      rw ih (writer-tests (ltb lo (t .epoch)) (ltb (t .epoch) (c .ec)) (waitsOk seen t) (depsOk (c .lse) t)
-        (rises (t .epoch) (c .ec) (epochs ts)) (allOf (statusOk all) ts) (allOf (depsOk (c .lse)) ts)
-          (statusOk all t)
-        (λ x r. waits-status lo seen t ts l r g)))
-    (λ n. rw n)
-
-pub writers-ranked-is : (c : Clock) (ts : List RwTxn)
-    → writersRanked (c .lce) c false ts ≡ rises (c .lce) (c .ec) (epochs ts) && allOf (statusOk ts) ts
-      && allOf (depsOk (c .lse)) ts
-writers-ranked-is c ts = ranked-from c ts (c .lce) false ts (λ e l. refl)
+pub writers-ranked-is : (m : Manager) → writersRanked (m .clock .lce) (m .clock) false (writersOf m)
+    ≡ rises (m .clock .lce) (m .clock .ec) (epochs (writersOf m)) && allOf (statusOk (writersOf m)) (writersOf m)
+      && allOf (depsOk (m .clock .lse)) (writersOf m)
+writers-ranked-is m = let c = m .clock in let ts = writersOf m in
+    ranked-is (λ t. t .epoch) (c .ec) (λ seen t. waitsOk seen t && depsOk (c .lse) t)
+      (λ seen t. seen || isOpen t) (λ t. statusOk ts t && depsOk (c .lse) t) (Seen c ts) (seen-next c ts)
+      (λ lo seen t us l r g. rw (waits-status c ts lo seen t us l r g)) (c .lce) false ts (λ e l. refl)
+    ∙ rw (allOf-and (statusOk ts) (depsOk (c .lse)) ts)
+      (sym (and-assoc (rises (c .lce) (c .ec) (epochs ts)) (allOf (statusOk ts) ts) (allOf (depsOk (c .lse)) ts)))
 
 -- ---- read-only records
 
-pub readers-ranked-is : (next : ℕ) (c : Clock) (lo : ℕ) (ps : List RoTxn)
-    → readersRanked lo next c ps ≡ rises lo next (tickets ps)
-      && allOf (λ p. leb (c .lse) (p .epoch) && leb (p .epoch) (c .lce)) ps
-unfolding readerOk
-readers-ranked-is next c lo [] = refl
-readers-ranked-is next c lo (p ∷ ps) = rw (readers-ranked-is next c (p .ticket) ps)
-    (reader-tests (ltb lo (p .ticket)) (ltb (p .ticket) next) (leb (c .lse) (p .epoch))
-      (leb (p .epoch) (c .lce))
-      (rises (p .ticket) next (tickets ps))
-        (allOf (λ q. leb (c .lse) (q .epoch) && leb (q .epoch) (c .lce)) ps))
+pub readers-ranked-is : (m : Manager) → readersRanked 0 (m .readers .next) (m .clock) (readersOf m)
+    ≡ rises 0 (m .readers .next) (tickets (readersOf m))
+      && allOf (λ p. leb (m .clock .lse) (p .epoch) && leb (p .epoch) (m .clock .lce)) (readersOf m)
+readers-ranked-is m = ranked-is (λ p. p .ticket) (m .readers .next)
+    (λ _ p. leb (m .clock .lse) (p .epoch) && leb (p .epoch) (m .clock .lce)) (λ (u : Unit {0}) p. u)
+    (λ p. leb (m .clock .lse) (p .epoch) && leb (p .epoch) (m .clock .lce)) (λ _ _ _. Unit {0})
+    (λ lo s p ps l g. tt) (λ lo s p ps l r g. refl) 0 tt (readersOf m) tt

@@ -5,61 +5,37 @@ use mathlib.Core.Path.{_≡_, refl, sym, _∙_}
 use mathlib.Core.Bool.{true, false}
 use Prim.Native.Nat.{_-_}
 use native.Mathlib.Omega.{arith}
-use borrow.Author.Tests.{not-true, not-false}
 use lib.ListN.{length, drop}
+use borrow.Author.Needs.{needs}
 use Rattle.lists.specs.Lists.{allOf}
+use Rattle.lists.proofs.Laws.Branches.{said-yes, said-no}
+use Rattle.lists.proofs.Laws.Places.{all-next, all-end}
+use Rattle.rules.specs.Limits.{writersMax}
 use Rattle.rules.specs.WellFormed.{unusedRw}
 use Rattle.txn_find.proofs.Laws.Places.{writers-32, pastRw}
-use Rattle.txn_find.proofs.Laws.Scan.{all-next, all-end}
-use borrow.Author.Needs.{needs}
 use Rattle.txn_sound.proofs.writers_unused.Statement.{statement}
 use Rattle.txn_sound.proofs.writers_unused.Tie as tie
 
 abbrev Inv-loop : tie.InvT-loop
-Inv-loop ts i₀ i = (length (ts .at) ≡ 32)
+Inv-loop ts i₀ i = (length (ts .at) ≡ writersMax)
     × (allOf unusedRw (drop (ts .count) (ts .at)) ≡ allOf unusedRw (drop i (ts .at)))
 
 abbrev μ-loop : tie.MeasureT-loop
-μ-loop ts i₀ i = 32 - i
-
-loop-holds : tie.Need-loop-holds Inv-loop μ-loop
-loop-holds c = (writers-32 (c .args .t1) _ (c .good .0), refl)
-
-mul-t : tie.Need-mul-t Inv-loop μ-loop
-mul-t c = omega arith
-
-element-copy-out-t : tie.Need-element-copy-out-t Inv-loop μ-loop
-element-copy-out-t c = omega arith
-
-unused-rw-requires : tie.Need-unused-rw-requires Inv-loop μ-loop
-unused-rw-requires c κs = search needs
+μ-loop ts i₀ i = writersMax - i
 
 returns : tie.Need-returns Inv-loop μ-loop
-returns c =
-    let c4 = c .before .before .before .before in let c5 = c4 .before in
-    let a = c4 .loop in let ts = c5 .args .t1 in
-    sym (a .inv .1 ∙ all-next (ts .at) 32 (a .inv .0) unusedRw pastRw (a .i) false (omega arith)
-      (sym (c .before .unused-rw .ensures) ∙ not-true _ (c .if1 .taken)))
-
-add-i : tie.Need-add-i Inv-loop μ-loop
-add-i c = omega arith
-
-loop-less : tie.Need-loop-less Inv-loop μ-loop
-loop-less c = omega arith
+returns c = let k = c .before .before .before .before in let l = k .loop .inv in
+    sym (l .1 ∙ all-next (k .before .args .t1 .at) writersMax (l .0) unusedRw pastRw (k .loop .i) false (omega arith)
+      (said-no (c .before .unused-rw .ensures) (c .if1 .taken)))
 
 loop-again : tie.Need-loop-again Inv-loop μ-loop
-loop-again c =
-    let c4 = c .before .before .before .before in let c5 = c4 .before in
-    let a = c4 .loop in let ts = c5 .args .t1 in
-    (a .inv .0, a .inv .1
-      ∙ all-next (ts .at) 32 (a .inv .0) unusedRw pastRw (a .i) true (omega arith)
-      (sym (c .before .unused-rw .ensures) ∙ not-false _ (c .if1 .left)))
+loop-again c = let k = c .before .before .before .before in let l = k .loop .inv in
+    (l .0, l .1 ∙ all-next (k .before .args .t1 .at) writersMax (l .0) unusedRw pastRw (k .loop .i) true (omega arith)
+      (said-yes (c .before .unused-rw .ensures) (c .if1 .left)))
 
 returns-2 : tie.Need-returns-2 Inv-loop μ-loop
-returns-2 c =
-    let c2 = c .before .before in
-    let a = c .before .loop in let ts =
-      c2 .args .t1 in sym (a .inv .1 ∙ all-end (ts .at) 32 (a .inv .0) unusedRw (a .i) (omega arith))
+returns-2 c = let k = c .before in let l = k .loop .inv in
+    sym (l .1 ∙ all-end (k .before .args .t1 .at) writersMax (l .0) unusedRw (k .loop .i) (omega arith))
 
 pub writers-unused-spec : {M : Type 1} → statement M
 writers-unused-spec =
@@ -67,12 +43,12 @@ writers-unused-spec =
     (tie.spec
     Inv-loop
     μ-loop
-    loop-holds
-    mul-t
-    element-copy-out-t
-    unused-rw-requires
+    (λ c. (writers-32 (c .args .t1) _ (c .good .0), refl))
+    (λ c. omega arith)
+    (λ c. omega arith)
+    (λ c κs. search needs)
     returns
-    add-i
-    loop-less
+    (λ c. omega arith)
+    (λ c. omega arith)
     loop-again
     returns-2)

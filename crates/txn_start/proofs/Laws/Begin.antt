@@ -1,28 +1,21 @@
--- Begin in the manager's arrays: the epochs that a loop collects for the deps, and the record after those in
--- use.
--- Definitions: rules/specs/Begin.antt.
+-- The epochs that a loop collects for the deps of a transaction that begins. Definitions: rules/specs/Begin.antt.
 -- Assumes nothing.
-use mathlib.Core.Path.{_≡_, refl, sym, _∙_}
+use mathlib.Core.Path.{_≡_, refl, _∙_}
 use mathlib.Core.Bool.{Bool, true, false, cond}
 use mathlib.Core.List.{List, [], _∷_, _++_, map, map-append, append-nil}
-use Prim.Native.Nat.{ℕ, suc, _+_, _<_}
+use Prim.Native.Nat.{ℕ, _+_, _<_}
 use native.Mathlib.Numerals.{add-one}
 use lib.ListN.{length, take, getD, set, length-append}
 use lib.Seq.{take-suc}
 use Rattle.lists.specs.Lists.{keepIf, pad}
 use Rattle.lists.proofs.Laws.Filter.{keepIf-append}
-use Rattle.rules.specs.Manager.{noRw, isOpen, openEpochs, writersOf, withEc}
-use Rattle.rules.specs.Begin.{begunTxn, begunManager}
-use Rattle.rules.specs.WellFormed.{managerOk}
+use Rattle.lists.proofs.Laws.Places.{pad-push}
+use Rattle.rules.specs.Limits.{depsMax}
+use Rattle.rules.specs.Manager.{isOpen, openEpochs}
 use Rattle.rules.specs.declared.RwTxn.{RwTxn}
-use Rattle.rules.specs.declared.Manager.{Manager}
 use Rattle.txn_find.proofs.Laws.Places.{pastRw}
-use Rattle.txn_find.proofs.Laws.Scan.{pad-push}
-use Rattle.txn.proofs.Laws.Records.{pushed, writers-tidy}
 
--- ---- the deps
-
-pub open-next : (xs : List RwTxn) (j : ℕ) (r : Bool) → j < length xs → isOpen (getD xs j pastRw) ≡ r
+open-next : (xs : List RwTxn) (j : ℕ) (r : Bool) → j < length xs → isOpen (getD xs j pastRw) ≡ r
     → openEpochs (take (j + 1) xs) ≡ openEpochs (take j xs) ++ cond r (getD xs j pastRw .epoch ∷ []) []
 open-next xs j r h e =
     rw (add-one j, take-suc xs j pastRw h, keepIf-append isOpen (take j xs) (getD xs j pastRw ∷ []),
@@ -38,35 +31,16 @@ open-next xs j r h e =
 -- k epochs of the first j records are collected, and the places after them are 0
 pub record Collected (xs : List RwTxn) (j : ℕ) (at : List ℕ) (k : ℕ) : Type 0 where
   pub used : k ≡ length (openEpochs (take j xs))
-  pub held : at ≡ pad 31 0 (openEpochs (take j xs))
+  pub held : at ≡ pad depsMax 0 (openEpochs (take j xs))
 
 module _ {xs : List RwTxn} {j : ℕ} {at : List ℕ} {k : ℕ} (c : Collected xs j at k) (h : j < length xs) where
-  pub collect : isOpen (getD xs j pastRw) ≡ true → k < 31
+  pub collect : isOpen (getD xs j pastRw) ≡ true → k < depsMax
     → Collected xs (j + 1) (set at k (getD xs j pastRw .epoch)) (k + 1)
   collect o l = let g = open-next xs j true h o in
-    let l′ : length (openEpochs (take j xs)) < 31 = rw (← c .used) l in record {
+    let l′ : length (openEpochs (take j xs)) < depsMax = rw (← c .used) l in record {
     used = rw (g, length-append (openEpochs (take j xs)) (getD xs j pastRw .epoch ∷ []), c .used);
-    held = rw (c .used, c .held, g) (pad-push 31 0 (openEpochs (take j xs)) (getD xs j pastRw .epoch) l′) }
+    held = rw (c .used, c .held, g) (pad-push depsMax 0 (openEpochs (take j xs)) (getD xs j pastRw .epoch) l′) }
 
   pub pass : isOpen (getD xs j pastRw) ≡ false → Collected xs (j + 1) at k
   pass o = let g = open-next xs j false h o ∙ append-nil (openEpochs (take j xs)) in
     record { used = rw g (c .used); held = rw g (c .held) }
-
--- ---- begin, in the arrays
-
-pub begun-is : (m : Manager) → managerOk m ≡ true → length (m .writers .at) ≡ 32
-    → ((i : ℕ) → i < 32 → length (getD (m .writers .at) i pastRw .deps .at) ≡ 31)
-    → m .writers .count < 32
-    → begunManager m ≡ record {
-        clock = withEc (suc (m .clock .ec)) (m .clock);
-        writers = record { at = set (m .writers .at) (m .writers .count)
-          (begunTxn (m .clock .ec) (writersOf m)); count = m .writers .count + 1 };
-        readers = m .readers }
-unfolding begunManager
-begun-is m ok len each h =
-    let p = pushed noRw (m .writers .at) (m .writers .count) (begunTxn (m .clock .ec) (writersOf m)) len h
-      (writers-tidy m ok len each) in
-    λ i. record {
-      clock = withEc (suc (m .clock .ec)) (m .clock);
-      writers = record { at = sym (p .held) i; count = sym (p .used) i };
-      readers = m .readers }

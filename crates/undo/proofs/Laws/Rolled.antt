@@ -1,60 +1,50 @@
 -- Entries, places and rows after a roll back are those of rules' rolledBackBelow. Definitions: specs/Rolled.antt.
--- In order: a loop that copies, and one partition by it; a store's entries and places; one partition of a sound store,
+-- In order: one partition, by what a loop copies; a store's entries and places; one partition of a sound store,
 -- its entries and places, its rows; the partitions below n, their entries and places, their rows.
 -- Assumes nothing.
 use mathlib.Core.Path.{_≡_, refl, sym, ap, _∙_}
 use mathlib.Core.Bool.{true}
-use mathlib.Core.List.{List, append-assoc}
-use Prim.Native.Nat.{ℕ, zero, suc, _+_, _*_, _≤_, _<_}
+use mathlib.Core.List.{List}
+use Prim.Native.Nat.{ℕ, zero, suc, _*_, _≤_, _<_}
 use native.Mathlib.Omega.{arith}
-use lib.ListN.{length, take, drop}
-use lib.Seq.{paste, length-take-le, take-take, getD-set-other}
-use lib.Dec.{ltb}
-use borrow.Author.Tests.{lt-ltb, le-leb, ltb-true, ltb-false}
+use lib.ListN.{take}
+use lib.Seq.{getD-set-other}
+use borrow.Author.Tests.{lt-ltb}
 use Rattle.lists.specs.Lists.{over}
-use Rattle.lists.proofs.Laws.All.{All}
 use Rattle.lists.proofs.Laws.Bools.{split}
 use Rattle.rules.specs.Limits.{partitionsMax, areasMax, rowsMax, entriesMax}
-use Rattle.rules.specs.Span.{Span, spans, entriesOf, wordsOf}
+use Rattle.rules.specs.Span.{Span, entriesOf, wordsOf}
 use Rattle.rules.specs.Rewrite.{hasEpoch, rolledBack}
-use Rattle.rules.specs.Store.{Store, noPartition, managerOf, partitionAt, entriesAt, rowsAt, spansAt, laid, laidInSpare}
+use Rattle.rules.specs.Store.{Store, noPartition, managerOf, partitionAt, rowsAt, spansAt, laid, laidInSpare}
 use Rattle.rules.specs.Store.{rolledBackAt, rolledBackBelow}
 use Rattle.rules.specs.declared.Entry.{Entry}
 use Rattle.rules.specs.declared.Partitions.{Partitions}
-use Rattle.rules.proofs.Laws.SpansOk.{MarkOk}
-use Rattle.rules.proofs.Laws.SpansTest.{EntriesOk, entries-ok}
+use Rattle.rules.proofs.Laws.SpansTest.{EntriesOk}
 use Rattle.rules.proofs.Laws.WellFormed.{StoreOk}
 use Rattle.rules.proofs.Laws.Store.{rolledBack-below}
-use Rattle.visible.specs.Bare.{entriesIn}
-use Rattle.visible.specs.declared.Area.{Area}
+use Rattle.area.specs.Area.{entriesIn, baseOf}
+use Rattle.area.specs.declared.Area.{Area}
 use Rattle.rewrite_plan.specs.Plan.{spansIn, planOf, rollEpochs}
-use Rattle.rewrite_plan.proofs.Laws.Area.{Uses}
 use Rattle.rewrite.specs.Kept.{asRewritten, rewrittenOf}
-use Rattle.rewrite.specs.Copied.{areasApart, copyOk, rowsCopied}
+use Rattle.rewrite.specs.Copied.{copyOk, rowsCopied}
 use Rattle.rewrite.specs.declared.Rewritten.{Rewritten}
-use Rattle.rewrite.proofs.Laws.Copied.{apart-before, apart-after}
-use Rattle.rewrite.proofs.Laws.Store.{Dated, dated, area-entries, has-same, rolled-area, rolled-copied}
-use Rattle.compact.specs.Areas.{baseOf, areaAt, movedTo}
+use Rattle.rewrite.proofs.Laws.Store.{area-entries, has-same, rolled-area, rolled-copied}
+use Rattle.rewrite.proofs.Laws.Partition.{entries-are, entries-facts, words, spans-are, epochs-are, marks-are}
+use Rattle.rewrite.proofs.Laws.Partition.{spare-apart}
+use Rattle.partition.specs.Areas.{movedTo}
 use Rattle.undo.specs.Rolled.{rolledOf, areaIn, planIn, keptIn, concerns, rewrittenAt, rolledAt}
 use Rattle.undo.specs.Rolled.{rolledBelow, spareAfter, rowsRolledAt, spareBelow, rowsRolledBelow}
 use Rattle.undo.specs.declared.Rolled.{Rolled}
 
--- a copy of the first n of vs
-paste-over : {A : Type 0} (xs : List A) (at : ℕ) (vs : List A) (n : ℕ) → n ≤ length vs
-    → paste xs at vs n ≡ over at (take n vs) xs
-paste-over xs at vs n h =
-    rw (length-take-le n vs h) (append-assoc (take at xs) (take n vs) (drop (at + n) xs))
-
 -- partition p, whose area is a, where what is kept of it is put over the spare area
 pub rolled-put : (i p : ℕ) (w : Rolled) (a : Area) → a ≡ areaIn p w → hasEpoch i (spansIn a) ≡ true
     → (r : Rewritten) → r ≡ rewrittenOf a (planOf (rollEpochs i (spansIn a))) → (to n : ℕ)
-    → to ≡ baseOf entriesMax (w .partitions .spare) → Uses (r .area) n
-    → (es : List Entry) → es ≡ paste (w .table .at) to (r .area .at) n
+    → to ≡ baseOf entriesMax (w .partitions .spare) → take n (r .area .at) ≡ entriesIn (r .area)
+    → (es : List Entry) → es ≡ over to (take n (r .area .at)) (w .table .at)
     → (ps : Partitions) → ps ≡ movedTo p (r .rows) (r .area .count) (w .partitions)
     → rolledOf (record { at = es }) ps ≡ rolledAt i p w
 unfolding rolledAt rewrittenAt
-rolled-put i p w a at t r e to n b u es h ps m = let f = u .few in let l = u .long in
-    rw (h, m, paste-over (w .table .at) to (r .area .at) n (omega arith), u .first, b, e, ← at, t)
+rolled-put i p w a at t r e to n b u es h ps m = rw (h, m, u, b, e, ← at, t)
 
 -- the entries and places of a store
 abbrev pub asRolled : Store → Rolled
@@ -63,54 +53,21 @@ asRolled st = rolledOf (record { at = st .entries }) (st .state .partitions)
 -- ---- partition p of a sound store
 
 module _ (st : Store) (ok : StoreOk st) (p : ℕ) (h : p < partitionsMax) where
-  area-is : entriesIn (areaIn p (asRolled st)) ≡ entriesAt p st
-  unfolding areaAt
-  area-is = let q = partitionAt p st in let part = ok .partition p h in let n = part .entry-count in
-      let f = part .spans-ok .entries-fit in
-      rw (lt-ltb (q .area) areasMax (ok .areas .inside p h))
-        (take-take (q .entries) entriesMax (drop (entriesMax * q .area) (st .entries)) (omega arith))
-
-  entries-facts : EntriesOk (managerOf st) (partitionAt p st .rows) (entriesIn (areaIn p (asRolled st)))
-  entries-facts = let part = ok .partition p h in
-      rw area-is (rw (part .entries-are, ← part .row-count)
-        at (entries-ok (managerOf st) (spansAt p st) (part .spans-ok)))
-
-  words : length (rowsAt p st) ≡ partitionAt p st .rows
-  words = let part = ok .partition p h in ap length (sym (part .words-are)) ∙ sym (part .row-count)
-
-  spans-are : spans 0 (entriesIn (areaIn p (asRolled st))) (rowsAt p st) ≡ spansAt p st
-  unfolding spansAt
-  spans-are = rw area-is
-
-  epochs-are : All Dated (spans 0 (entriesIn (areaIn p (asRolled st))) (rowsAt p st))
-  epochs-are = rw spans-are (dated (managerOf st) (spansAt p st) (ok .partition p h .spans-ok .epochs))
-
-  marks-are : All MarkOk (spans 0 (entriesIn (areaIn p (asRolled st))) (rowsAt p st))
-  marks-are = rw spans-are (ok .partition p h .spans-ok .marks)
-
-  -- the spare area lies apart
-  apart-are : areasApart (rowsMax * partitionAt p st .area) (rowsMax * st .state .partitions .spare)
-      (length (st .rows)) ≡ true
-  apart-are = let a = partitionAt p st .area in let s = st .state .partitions .spare in
-      let n = ok .rows-length in let l = ok .areas .inside p h in let m = ok .areas .spare-inside in
-      let ne = ok .areas .spare-apart p h in split (ltb a s)
-      (λ t. let g = ltb-true a s t in apart-before (rowsMax * a) (rowsMax * s) (length (st .rows))
-        (omega arith) (omega arith) (omega arith) (omega arith))
-      (λ f. let g = ltb-false a s f in apart-after (rowsMax * a) (rowsMax * s) (length (st .rows))
-        (omega arith) (omega arith) (omega arith) (omega arith)
-        ∙ le-leb (rowsMax * s + rowsMax) (rowsMax * a) (omega arith))
+  facts : EntriesOk (managerOf st) (partitionAt p st .rows) (entriesIn (areaIn p (asRolled st)))
+  facts = entries-facts st ok p h
 
   module _ (i : ℕ) where
     has-is : concerns i p (asRolled st) ≡ hasEpoch i (spansAt p st)
-    has-is = has-same (areaIn p (asRolled st)) (partitionAt p st .rows) (entries-facts .rows-fit)
-        (entries-facts .ends) (rowsAt p st) words i ∙ ap (hasEpoch i) spans-are
+    has-is = has-same (areaIn p (asRolled st)) (partitionAt p st .rows) (facts .rows-fit)
+        (facts .ends) (rowsAt p st) (words st ok p h) i
+        ∙ ap (hasEpoch i) (spans-are st ok p h)
 
     -- ---- entries and places
 
     kept-is : keptIn i p (asRolled st) ≡ asRewritten (rolledBack i (spansAt p st))
-    kept-is = rolled-area (areaIn p (asRolled st)) (partitionAt p st .rows) (entries-facts .rows-fit)
-        (entries-facts .ends) (rowsAt p st) words i epochs-are marks-are
-        ∙ ap (λ (ss : List Span). asRewritten (rolledBack i ss)) spans-are
+    kept-is = rolled-area (areaIn p (asRolled st)) (partitionAt p st .rows) (facts .rows-fit)
+        (facts .ends) (rowsAt p st) (words st ok p h) i (epochs-are st ok p h) (marks-are st ok p h)
+        ∙ ap (λ (ss : List Span). asRewritten (rolledBack i ss)) (spans-are st ok p h)
 
     rewritten-is : rewrittenAt i p (asRolled st) ≡ asRolled (laidInSpare p (rolledBack i (spansAt p st)) st)
     unfolding rewrittenAt movedTo laidInSpare laid
@@ -126,11 +83,11 @@ module _ (st : Store) (ok : StoreOk st) (p : ℕ) (h : p < partitionsMax) where
     copied-is : rowsCopied (areaIn p (asRolled st)) (planIn i p (asRolled st)) (rowsMax * partitionAt p st .area)
         (rowsMax * st .state .partitions .spare) (st .rows)
         ≡ over (rowsMax * st .state .partitions .spare) (wordsOf (rolledBack i (spansAt p st))) (st .rows)
-    copied-is = rolled-copied (areaIn p (asRolled st)) (partitionAt p st .rows) (entries-facts .rows-fit)
-        (entries-facts .ends) (rowsMax * partitionAt p st .area) (rowsMax * st .state .partitions .spare) (st .rows)
-        apart-are i epochs-are marks-are
+    copied-is = rolled-copied (areaIn p (asRolled st)) (partitionAt p st .rows) (facts .rows-fit)
+        (facts .ends) (rowsMax * partitionAt p st .area) (rowsMax * st .state .partitions .spare) (st .rows)
+        (spare-apart st ok p h) i (epochs-are st ok p h) (marks-are st ok p h)
         ∙ ap (λ (ss : List Span). over (rowsMax * st .state .partitions .spare) (wordsOf (rolledBack i ss))
-          (st .rows)) spans-are
+          (st .rows)) (spans-are st ok p h)
 
     pub rows-step : rowsRolledAt i (areaIn p (asRolled st)) (partitionAt p st .area) (st .state .partitions .spare)
         (st .rows) ≡ rolledBackAt i p st .rows
@@ -173,9 +130,9 @@ module _ (i : ℕ) (st : Store) (ok : StoreOk st) where
   entries-kept : (n : ℕ) → n < partitionsMax
       → entriesIn (areaIn n (asRolled st)) ≡ entriesIn (areaIn n (asRolled (at n)))
   entries-kept n h = let r = rolledBack-below i n st ok (omega arith) in
-      area-is st ok n h ∙ (sym (ok .partition n h .entries-are)
+      entries-are st ok n h ∙ (sym (ok .partition n h .entries-are)
       ∙ (ap (entriesOf 0) (sym (r .above n h (omega arith))) ∙ (r .sound .partition n h .entries-are
-      ∙ sym (area-is (at n) (r .sound) n h))))
+      ∙ sym (entries-are (at n) (r .sound) n h))))
 
   spare-below : (n : ℕ) → n ≤ partitionsMax → spareBelow i n (asRolled st) ≡ at n .state .partitions .spare
   unfolding spareBelow spareAfter rolledBackBelow rolledBackAt laidInSpare laid

@@ -6,24 +6,6 @@ use Rattle.undo.specs.Rolled.{spareAfter, rowsRolledAt}
 use Rattle.undo.proofs.copy_one.Statement.{statement}
 use Rattle.undo.proofs.copy_one.Tie as tie
 
-has-epoch-requires : tie.Need-has-epoch-requires
-has-epoch-requires c κs = search needs
-
-roll-plan-requires : tie.Need-roll-plan-requires
-roll-plan-requires c κs = search needs
-
-row-base-requires : tie.Need-row-base-requires
-row-base-requires c κs = search needs
-
-row-base-requires-2 : tie.Need-row-base-requires-2
-row-base-requires-2 c κs = search needs
-
-copy-kept-requires : tie.Need-copy-kept-requires
-copy-kept-requires c κs = search needs
-
-same-length : tie.Need-same-length
-same-length c = search needs
-
 returns : tie.Need-returns
 unfolding spareAfter rowsRolledAt
 returns c =
@@ -38,5 +20,12 @@ returns-2 c = let e = sym (c .before .has-epoch .ensures) ∙ c .if1 .left in (r
 pub copy-one-spec : {M : Type 1} → statement M
 copy-one-spec =
     tie.close
-    (tie.spec has-epoch-requires roll-plan-requires row-base-requires row-base-requires-2 copy-kept-requires
-      same-length returns returns-2)
+    (tie.spec
+    (λ c κs. search needs)
+    (λ c κs. search needs)
+    (λ c κs. search needs)
+    (λ c κs. search needs)
+    (λ c κs. search needs)
+    (λ c. search needs)
+    returns
+    returns-2)

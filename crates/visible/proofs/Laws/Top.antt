@@ -1,18 +1,19 @@
 -- The greatest applied delete, entry by entry. Definitions: rules' topStep, topFrom and covers, over bare
 -- entries.
--- In order: entries that change nothing, one that does; the next entry; what the greatest hides.
+-- In order: the next entry; what the greatest hides.
 -- Assumes nothing.
 use mathlib.Core.Path.{_≡_, refl, sym}
-use mathlib.Core.Bool.{Bool, true, false, _&&_, _||_}
+use mathlib.Core.Bool.{Bool, _||_, and-false, and-true, or-false}
 use mathlib.Core.List.{List, [], _∷_}
-use Prim.Native.Nat.{ℕ, suc, _≤_, _<_}
+use Prim.Native.Nat.{ℕ, _+_, _≤_, _<_}
 use lib.Dec.{ltb, leb, eqb}
+use native.Mathlib.Numerals.{add-one}
 use native.Mathlib.Omega.{arith}
-use borrow.Author.Tests.{eq-eqb, ne-eqb, le-leb, lt-leb, lt-ltb, le-ltb}
+use borrow.Author.Tests.{le-leb, lt-leb, lt-ltb, le-ltb}
 use borrow.Author.Tests.{ltb-true, ltb-false, eqb-true, eqb-false}
-use Rattle.lists.proofs.Laws.Bools.{split, and-false, and-true, or-false}
+use Rattle.lists.proofs.Laws.Bools.{split}
 use Rattle.rules.specs.declared.Entry.{Entry}
-use Rattle.rules.proofs.Laws.TopDelete.{Top, topStep, topFrom, covers}
+use Rattle.rules.specs.Top.{Top, topStep, topFrom, covers}
 use Rattle.visible.specs.Bare.{bareSpan, bare}
 
 leb-or : (j e : ℕ) → leb j e ≡ ltb j e || eqb j e
@@ -23,25 +24,12 @@ leb-or j e = split (ltb j e)
     (λ n. let h = eqb-false j e n in rw (f, n, lt-leb j e (omega arith))))
 
 module _ (a : ℕ → Bool) (i : ℕ) (top : Top) (e : Entry) where
-  pub step-rows : (e .mark ≡ 1 → ⊥) → topStep a i top (bareSpan 0 e) ≡ top
-  step-rows n = rw (ne-eqb (e .mark) 1 n)
-
-  pub step-less : e .epoch < top .epoch → topStep a i top (bareSpan 0 e) ≡ top
-  step-less h = rw (lt-leb (top .epoch) (e .epoch) h, and-false (eqb (e .mark) 1 && a (e .epoch)))
-
-  pub step-other : a (e .epoch) ≡ false → topStep a i top (bareSpan 0 e) ≡ top
-  step-other f = rw (f, and-false (eqb (e .mark) 1))
-
-  pub step-new : e .mark ≡ 1 → top .epoch ≤ e .epoch → a (e .epoch) ≡ true
-      → topStep a i top (bareSpan 0 e) ≡ record { epoch = e .epoch; at = suc i }
-  step-new m h t = rw (eq-eqb (e .mark) 1 m, t, le-leb (top .epoch) (e .epoch) h)
-
   -- where an entry's rows begin makes no difference
   pub top-next : (m n : ℕ) (es : List Entry)
-      → topFrom a i top (bare m (e ∷ es)) ≡ topFrom a (suc i) (topStep a i top (bareSpan 0 e)) (bare n es)
+      → topFrom a i top (bare m (e ∷ es)) ≡ topFrom a (i + 1) (topStep a i top (bareSpan 0 e)) (bare n es)
   unfolding topFrom bare
   top-next m n [] = refl
-  top-next m n (d ∷ es) = refl
+  top-next m n (d ∷ es) = rw (add-one i)
 
 -- ---- what the greatest hides
 

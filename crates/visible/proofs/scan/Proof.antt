@@ -1,51 +1,40 @@
 -- `visible::scan` meets its contract: it refuses by the tests of scanOk, and writes where they hold.
 -- Assumes nothing.
 use mathlib.Core.Path.{_≡_, sym, _∙_}
-use mathlib.Core.Bool.{true}
+use mathlib.Core.Bool.{true, and-false}
 use Prim.Native.Nat.{_≤_}
-use borrow.Author.Tests.{not-true, not-false}
+use borrow.Author.Tests.{not-true, not-false, lt-leb}
 use lib.ListN.{length, take}
 use denote.Ref.{now}
 use Rattle.rules.specs.Bitmap.{bytesFor}
 use Rattle.rules.specs.WellFormed.{endsOk}
-use Rattle.visible.specs.Bare.{entriesIn}
-use Rattle.visible.proofs.Laws.Places.{unmapped, in-use-le, take-in-use}
-use Rattle.visible.proofs.Laws.Scan.{wrong-ends, many-rows, short-bitmap, scan-ok, refused, written}
+use Rattle.area.specs.Area.{entriesIn}
+use Rattle.area.proofs.Laws.Area.{area-length, entries-used}
+use Rattle.visible.specs.Scan.{scanOk, scanned, bitmapScanned}
+use Rattle.visible.proofs.Laws.Scan.{scan-ok}
 use borrow.Author.Needs.{needs}
 use Rattle.visible.proofs.scan.Statement.{statement}
 use Rattle.visible.proofs.scan.Tie as tie
-
-in-use-requires : tie.Need-in-use-requires
-in-use-requires c κs = search needs
-
-ends-ok-requires : tie.Need-ends-ok-requires
-ends-ok-requires c κs = rw (c .in-use .ensures) (in-use-le (c .before .before .args .t .count) 64)
 
 -- the entries that the loops go over are those in use
 used : (c : tie.After-in-use) → let t = c .before .before .args .t in
     take (c .in-use .result) (t .at) ≡ entriesIn t
 used c = let s = c .before .before in let t = s .args .t in
-    rw (c .in-use .ensures)
-    (take-in-use (t .count) 64 (t .at) (unmapped _ (t .at) 64 (s .good .1 .0 .1 .1 .0 .1 .0 .1)))
+    entries-used t (c .in-use .result) (area-length t _ (s .good .1 .0)) (c .in-use .ensures)
 
 returns : tie.Need-returns
-returns c = let u = c .before .before in let a = u .before .before .args in let lent = now (a .bitmap) in
-    let r = c .before .ends-ok in
-    refused (a .t) (a .rows) lent (a .v) (wrong-ends (a .t) (a .rows) lent
-    (rw (← used u) (sym (r .ensures) ∙ not-true (r .result) (c .if1 .taken))))
+unfolding scanned bitmapScanned scanOk
+returns c = let r = c .before .ends-ok in
+    let e = rw (used (c .before .before)) at (sym (r .ensures) ∙ not-true (r .result) (c .if1 .taken)) in (rw e, rw e)
 
 returns-2 : tie.Need-returns-2
-returns-2 c = let a = c .before .before .before .before .before .args in let lent = now (a .bitmap) in
-    refused (a .t) (a .rows) lent (a .v) (many-rows (a .t) (a .rows) lent (c .if2 .taken))
-
-bytes-for-requires : tie.Need-bytes-for-requires
-bytes-for-requires c κs = search needs
+unfolding scanned bitmapScanned scanOk
+returns-2 c = let e = lt-leb _ _ (c .if2 .taken) in (rw (e, and-false), rw (e, and-false))
 
 returns-3 : tie.Need-returns-3
-returns-3 c = let b = c .before in let a = b .before .before .before .before .before .before .args in
-    let lent = now (a .bitmap) in
-    refused (a .t) (a .rows) lent (a .v)
-    (short-bitmap (a .t) (a .rows) lent (rw (b .bytes-for .ensures) at (c .if3 .taken)))
+unfolding scanned bitmapScanned scanOk
+returns-3 c = let e = lt-leb _ _ (rw (c .before .bytes-for .ensures) at (c .if3 .taken)) in
+    (simp (e, and-false), simp (e, and-false))
 
 -- what the tests leave, at the call of write
 abbrev Tested : tie.After-write-arg → tie.After-ends-ok
@@ -64,32 +53,30 @@ room c = rw (c .before .before .bytes-for .ensures) at (c .before .if3 .left)
 
 write-requires : tie.Need-write-requires
 write-requires c κs = (
-  rw (Tested c .before .in-use .ensures) (in-use-le (S c .args .t .count) 64),
+  let u = Tested c .before .in-use .ensures in search needs,
   c .before .before .before .if2 .left,
   ends c,
   room c,
 )
 
-same-length : tie.Need-same-length
-same-length c = search needs
-
 returns-4 : tie.Need-returns-4
-returns-4 c = let k = c .before .before .before in let a = S k .args in let lent = now (a .bitmap) in
+unfolding scanned bitmapScanned
+returns-4 c = let k = c .before .before .before in let a = S k .args in
     let same = used (Tested k .before) in let r = c .before .before .write in
-    let ok = scan-ok (a .t) (a .rows) lent (rw same at (ends k)) (k .before .before .before .if2 .left) (room k) in
-    written (a .t) (a .rows) lent (a .v) ok (r .result) (r .last .1 .1 .1 .1 .0)
-    (rw same at (r .ensures .0)) (rw same at (r .ensures .1))
+    let ok = scan-ok (a .t) (a .rows) (now (a .bitmap)) (rw same at (ends k)) (k .before .before .before .if2 .left)
+      (room k) in
+    (rw (ok, r .ensures .0, same), rw (ok, r .ensures .1, same))
 
 pub scan-spec : {M : Type 1} → statement M
 scan-spec =
     tie.close
     (tie.spec
-    in-use-requires
-    ends-ok-requires
+    (λ c κs. search needs)
+    (λ c κs. search needs)
     returns
     returns-2
-    bytes-for-requires
+    (λ c κs. search needs)
     returns-3
     write-requires
-    same-length
+    (λ c. search needs)
     returns-4)

@@ -6,11 +6,11 @@ use Rattle.admit.proofs.sound.lengths_ok.Tie as tie
 
 returns : tie.Need-returns
 unfolding lengthsAre
-returns c = rw (ne-eqb (c .before .args .m) 4608 (c .if1 .taken))
+returns c = rw (ne-eqb _ _ (c .if1 .taken))
 
 returns-2 : tie.Need-returns-2
 unfolding lengthsAre
-returns-2 c = rw (eq-eqb (c .before .args .m) 4608 (c .if1 .left))
+returns-2 c = rw (eq-eqb _ _ (c .if1 .left))
 
 pub lengths-ok-spec : {M : Type 1} → statement M
 lengths-ok-spec = tie.close (tie.spec returns returns-2)

@@ -6,15 +6,9 @@ use Rattle.admit.specs.Sound.{restOk}
 use Rattle.admit.proofs.sound.rest_ok.Statement.{statement}
 use Rattle.admit.proofs.sound.rest_ok.Tie as tie
 
-lengths-ok-requires : tie.Need-lengths-ok-requires
-lengths-ok-requires c κs = search needs
-
 returns : tie.Need-returns
 unfolding restOk
 returns c = rw (sym (c .before .lengths-ok .ensures) ∙ not-true _ (c .if1 .taken))
-
-partitions-ok-requires : tie.Need-partitions-ok-requires
-partitions-ok-requires c κs = search needs
 
 returns-2 : tie.Need-returns-2
 unfolding restOk
@@ -23,4 +17,10 @@ returns-2 c =
     rw (c .partitions-ok .ensures, sym (e .before .lengths-ok .ensures) ∙ not-false _ (e .if1 .left))
 
 pub rest-ok-spec : {M : Type 1} → statement M
-rest-ok-spec = tie.close (tie.spec lengths-ok-requires returns partitions-ok-requires returns-2)
+rest-ok-spec =
+    tie.close
+    (tie.spec
+    (λ c κs. search needs)
+    returns
+    (λ c κs. search needs)
+    returns-2)

@@ -21,59 +21,41 @@ use denote.Triple.Table.{cited}
 use Rattle.store.proofs.create as create
 use Rattle.store.proofs.create.Symbol as create-def
 use Rattle.store.proofs.create.Met as create-thm
-use Rattle.store.proofs.begin as begin
-use Rattle.store.proofs.begin.Symbol as begin-def
-use Rattle.store.proofs.begin.Met as begin-thm
+use Rattle.store.proofs.manage as manage
+use Rattle.store.proofs.manage.Symbol as manage-def
+use Rattle.store.proofs.manage.Met as manage-thm
 use Rattle.store.proofs.append as append
 use Rattle.store.proofs.append.Symbol as append-def
 use Rattle.store.proofs.append.Met as append-thm
 use Rattle.store.proofs.clear as clear
 use Rattle.store.proofs.clear.Symbol as clear-def
 use Rattle.store.proofs.clear.Met as clear-thm
-use Rattle.store.proofs.commit as commit
-use Rattle.store.proofs.commit.Symbol as commit-def
-use Rattle.store.proofs.commit.Met as commit-thm
-use Rattle.store.proofs.begin_ro as begin-ro
-use Rattle.store.proofs.begin_ro.Symbol as begin-ro-def
-use Rattle.store.proofs.begin_ro.Met as begin-ro-thm
-use Rattle.store.proofs.end_ro as end-ro
-use Rattle.store.proofs.end_ro.Symbol as end-ro-def
-use Rattle.store.proofs.end_ro.Met as end-ro-thm
 use Rattle.store.proofs.scan_rw as scan-rw
 use Rattle.store.proofs.scan_rw.Symbol as scan-rw-def
 use Rattle.store.proofs.scan_rw.Met as scan-rw-thm
 use Rattle.store.proofs.scan_ro as scan-ro
 use Rattle.store.proofs.scan_ro.Symbol as scan-ro-def
 use Rattle.store.proofs.scan_ro.Met as scan-ro-thm
-use Rattle.store.proofs.advance_lse as advance-lse
-use Rattle.store.proofs.advance_lse.Symbol as advance-lse-def
-use Rattle.store.proofs.advance_lse.Met as advance-lse-thm
 use Rattle.store.proofs.roll_back as roll-back
 use Rattle.store.proofs.roll_back.Symbol as roll-back-def
 use Rattle.store.proofs.roll_back.Met as roll-back-thm
 use Rattle.store.proofs.purge as purge
 use Rattle.store.proofs.purge.Symbol as purge-def
 use Rattle.store.proofs.purge.Met as purge-thm
-use Rattle.dispatch.proofs.Loans.{Callee}
+use Rattle.walks.proofs.Loans.{Callee}
 use Rattle.dispatch.proofs.dispatch.Code as code
 
 -- each callee's theorem, at the entry by which it is called
 pub record Known {M : Type 1} (𝓤 : URA M) (H : Heap 𝓤) (A : Atoms 𝓤) (at-mem : Memory → SProp 𝓤) (run : Routine →
     Fun 𝓤) (C : Calls 𝓤 H) : Type 1 where
   pub of-create : Triple 𝓤 (C create-def.name) (tripleOf 𝓤 H A create.signature (create.spec 𝓤 H A at-mem run))
-  pub of-begin : Triple 𝓤 (C begin-def.name) (tripleOf 𝓤 H A begin.signature (begin.spec 𝓤 H A at-mem run))
+  pub of-manage : Triple 𝓤 (C manage-def.name) (tripleOf 𝓤 H A manage.signature (manage.spec 𝓤 H A at-mem run))
   pub of-append : Triple 𝓤 (C append-def.name) (tripleOf 𝓤 H A append.signature (append.spec 𝓤 H A at-mem run))
   pub of-clear : Triple 𝓤 (C clear-def.name) (tripleOf 𝓤 H A clear.signature (clear.spec 𝓤 H A at-mem run))
-  pub of-commit : Triple 𝓤 (C commit-def.name) (tripleOf 𝓤 H A commit.signature (commit.spec 𝓤 H A at-mem run))
   pub of-roll-back : Triple 𝓤 (C roll-back-def.name) (tripleOf 𝓤 H A roll-back.signature (roll-back.spec 𝓤 H A
       at-mem run))
-  pub of-begin-ro : Triple 𝓤 (C begin-ro-def.name) (tripleOf 𝓤 H A begin-ro.signature (begin-ro.spec 𝓤 H A at-mem
-      run))
-  pub of-end-ro : Triple 𝓤 (C end-ro-def.name) (tripleOf 𝓤 H A end-ro.signature (end-ro.spec 𝓤 H A at-mem run))
   pub of-scan-rw : Triple 𝓤 (C scan-rw-def.name) (tripleOf 𝓤 H A scan-rw.signature (scan-rw.spec 𝓤 H A at-mem run))
   pub of-scan-ro : Triple 𝓤 (C scan-ro-def.name) (tripleOf 𝓤 H A scan-ro.signature (scan-ro.spec 𝓤 H A at-mem run))
-  pub of-advance-lse : Triple 𝓤 (C advance-lse-def.name) (tripleOf 𝓤 H A advance-lse.signature (advance-lse.spec 𝓤 H
-      A at-mem run))
   pub of-purge : Triple 𝓤 (C purge-def.name) (tripleOf 𝓤 H A purge.signature (purge.spec 𝓤 H A at-mem run))
 
 -- what a call says, with what it leaves of the bitmap
@@ -89,8 +71,9 @@ module _ {M : Type 1} (𝓤 : URA M) (H : Heap 𝓤) (A : Atoms 𝓤) (at-mem : 
   abbrev pub create-by : Callee 𝓤 H A C create-def.name create.ended
   create-by = record { clauses = create.clauses 𝓤 H A at-mem run; met = known .of-create; free = λ _ _. (tt, id⊢ 𝓤 _) }
 
-  abbrev pub begin-by : Callee 𝓤 H A C begin-def.name begin.ended
-  begin-by = record { clauses = begin.clauses 𝓤 H A at-mem run; met = known .of-begin; free = λ _ _. (tt, id⊢ 𝓤 _) }
+  abbrev pub manage-by : Callee 𝓤 H A C manage-def.name manage.ended
+  manage-by = record { clauses = manage.clauses 𝓤 H A at-mem run; met = known .of-manage; free = λ _ _. (tt,
+      id⊢ 𝓤 _) }
 
   abbrev pub append-by : Callee 𝓤 H A C append-def.name append.ended
   append-by = record { clauses = append.clauses 𝓤 H A at-mem run; met = known .of-append; free = λ _ _. (tt, id⊢ 𝓤 _) }
@@ -98,19 +81,9 @@ module _ {M : Type 1} (𝓤 : URA M) (H : Heap 𝓤) (A : Atoms 𝓤) (at-mem : 
   abbrev pub clear-by : Callee 𝓤 H A C clear-def.name clear.ended
   clear-by = record { clauses = clear.clauses 𝓤 H A at-mem run; met = known .of-clear; free = λ _ _. (tt, id⊢ 𝓤 _) }
 
-  abbrev pub commit-by : Callee 𝓤 H A C commit-def.name commit.ended
-  commit-by = record { clauses = commit.clauses 𝓤 H A at-mem run; met = known .of-commit; free = λ _ _. (tt, id⊢ 𝓤 _) }
-
   abbrev pub roll-back-by : Callee 𝓤 H A C roll-back-def.name roll-back.ended
   roll-back-by = record { clauses = roll-back.clauses 𝓤 H A at-mem run; met = known .of-roll-back; free = λ _ _. (tt,
       id⊢ 𝓤 _) }
-
-  abbrev pub begin-ro-by : Callee 𝓤 H A C begin-ro-def.name begin-ro.ended
-  begin-ro-by = record { clauses = begin-ro.clauses 𝓤 H A at-mem run; met = known .of-begin-ro; free = λ _ _. (tt, id⊢
-      𝓤 _) }
-
-  abbrev pub end-ro-by : Callee 𝓤 H A C end-ro-def.name end-ro.ended
-  end-ro-by = record { clauses = end-ro.clauses 𝓤 H A at-mem run; met = known .of-end-ro; free = λ _ _. (tt, id⊢ 𝓤 _) }
 
   abbrev pub scan-rw-by : Callee 𝓤 H A C scan-rw-def.name scan-rw.ended
   scan-rw-by = record { clauses = scan-rw.clauses 𝓤 H A at-mem run; met = known .of-scan-rw; free = λ _ _. (tt, id⊢ 𝓤
@@ -120,10 +93,6 @@ module _ {M : Type 1} (𝓤 : URA M) (H : Heap 𝓤) (A : Atoms 𝓤) (at-mem : 
   scan-ro-by = record { clauses = scan-ro.clauses 𝓤 H A at-mem run; met = known .of-scan-ro; free = λ _ _. (tt, id⊢ 𝓤
       _) }
 
-  abbrev pub advance-lse-by : Callee 𝓤 H A C advance-lse-def.name advance-lse.ended
-  advance-lse-by = record { clauses = advance-lse.clauses 𝓤 H A at-mem run; met = known .of-advance-lse; free = λ _ _.
-      (tt, id⊢ 𝓤 _) }
-
   abbrev pub purge-by : Callee 𝓤 H A C purge-def.name purge.ended
   purge-by = record { clauses = purge.clauses 𝓤 H A at-mem run; met = known .of-purge; free = λ _ _. (tt, id⊢ 𝓤 _) }
 
@@ -131,18 +100,12 @@ pub knowns : {M : Type 1} (𝓤 : URA M) (H : Heap 𝓤) (𝓜 : Model 𝓤 H) (
     → Known 𝓤 H (𝓖 .A) (𝓜 .mem) (𝓡 .run) (tables 𝓤 H 𝓜 𝓡 code.env .C)
 knowns 𝓤 H 𝓜 𝓖 𝓡 = record {
   of-create = cited 𝓤 H _ 𝓜 𝓡 code.env create-def.name _ code.calls-store·create (create-thm.met 𝓤 H 𝓜 𝓖 𝓡);
-  of-begin = cited 𝓤 H _ 𝓜 𝓡 code.env begin-def.name _ code.calls-store·begin (begin-thm.met 𝓤 H 𝓜 𝓖 𝓡);
+  of-manage = cited 𝓤 H _ 𝓜 𝓡 code.env manage-def.name _ code.calls-store·manage (manage-thm.met 𝓤 H 𝓜 𝓖 𝓡);
   of-append = cited 𝓤 H _ 𝓜 𝓡 code.env append-def.name _ code.calls-store·append (append-thm.met 𝓤 H 𝓜 𝓖 𝓡);
   of-clear = cited 𝓤 H _ 𝓜 𝓡 code.env clear-def.name _ code.calls-store·clear (clear-thm.met 𝓤 H 𝓜 𝓖 𝓡);
-  of-commit = cited 𝓤 H _ 𝓜 𝓡 code.env commit-def.name _ code.calls-store·commit (commit-thm.met 𝓤 H 𝓜 𝓖 𝓡);
   of-roll-back = cited 𝓤 H _ 𝓜 𝓡 code.env roll-back-def.name _ code.calls-store·roll-back (roll-back-thm.met 𝓤 H 𝓜
       𝓖 𝓡);
-  of-begin-ro = cited 𝓤 H _ 𝓜 𝓡 code.env begin-ro-def.name _ code.calls-store·begin-ro (begin-ro-thm.met 𝓤 H 𝓜 𝓖
-      𝓡);
-  of-end-ro = cited 𝓤 H _ 𝓜 𝓡 code.env end-ro-def.name _ code.calls-store·end-ro (end-ro-thm.met 𝓤 H 𝓜 𝓖 𝓡);
   of-scan-rw = cited 𝓤 H _ 𝓜 𝓡 code.env scan-rw-def.name _ code.calls-store·scan-rw (scan-rw-thm.met 𝓤 H 𝓜 𝓖 𝓡);
   of-scan-ro = cited 𝓤 H _ 𝓜 𝓡 code.env scan-ro-def.name _ code.calls-store·scan-ro (scan-ro-thm.met 𝓤 H 𝓜 𝓖 𝓡);
-  of-advance-lse = cited 𝓤 H _ 𝓜 𝓡 code.env advance-lse-def.name _ code.calls-store·advance-lse
-      (advance-lse-thm.met 𝓤 H 𝓜 𝓖 𝓡);
   of-purge = cited 𝓤 H _ 𝓜 𝓡 code.env purge-def.name _ code.calls-store·purge (purge-thm.met 𝓤 H 𝓜 𝓖 𝓡);
 }

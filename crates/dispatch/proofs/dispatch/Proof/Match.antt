@@ -17,19 +17,15 @@ use Rattle.rules.proofs.Entry as T
 use Rattle.rules.proofs.Entry.Laws as T′
 use Rattle.rules.proofs.Reader as Rd
 use Rattle.rules.proofs.Reader.Laws as Rd′
-use Rattle.lent.proofs.Frame.{past}
-use Rattle.lent.proofs.Lend.{reborrow}
+use Rattle.walks.proofs.Frame.{past}
+use Rattle.walks.proofs.Lend.{reborrow}
 use Rattle.store.proofs.create.Symbol as create-def
-use Rattle.store.proofs.begin.Symbol as begin-def
+use Rattle.store.proofs.manage.Symbol as manage-def
 use Rattle.store.proofs.append.Symbol as append-def
 use Rattle.store.proofs.clear.Symbol as clear-def
-use Rattle.store.proofs.commit.Symbol as commit-def
 use Rattle.store.proofs.roll_back.Symbol as roll-back-def
-use Rattle.store.proofs.begin_ro.Symbol as begin-ro-def
-use Rattle.store.proofs.end_ro.Symbol as end-ro-def
 use Rattle.store.proofs.scan_rw.Symbol as scan-rw-def
 use Rattle.store.proofs.scan_ro.Symbol as scan-ro-def
-use Rattle.store.proofs.advance_lse.Symbol as advance-lse-def
 use Rattle.store.proofs.purge.Symbol as purge-def
 use Rattle.dispatch.proofs.dispatch.Code as code
 
@@ -72,25 +68,25 @@ lending i rest = reborrow 2 (loc i) (loc (up 1 i)) T′.mir (reborrow 3 (loc (up
 abbrev pub lent-to : ℕ → Name → List Operand → Body
 lent-to i f xs = lending i (call f (copy (place 1 []) ∷ copy (place (loc (up 1 i)) []) ∷ copy (place (loc (up 3 i))
     []) ∷
-    xs) (place (loc 15) []))
+    xs) (place (loc 12) []))
 
 abbrev pub scan-to : ℕ → Name → List Operand → Body
 scan-to i f xs = lending (up 1 i) (reborrow 5 (loc (up 5 i)) (loc (up 6 i)) (tyInt w8) (seq (call f (copy (place 1
     []) ∷ copy
     (place (loc (up 2 i)) []) ∷ copy (place (loc (up 4 i)) []) ∷ copy (place (loc (up 6 i)) []) ∷ xs) (place (loc i)
-        [])) (assign (place (loc 48) []) (aggregate (copy (place (loc i) []) ∷ copy (place 1 []) ∷ [])))))
+        [])) (assign (place (loc 33) []) (aggregate (copy (place (loc i) []) ∷ copy (place 1 []) ∷ [])))))
 
 abbrev pub the-answer : Body
-the-answer = assign (place (loc 15) []) (rvOpd (copy (place (loc 48) [])))
+the-answer = assign (place (loc 12) []) (rvOpd (copy (place (loc 33) [])))
 
 abbrev pub one-number : ℕ → ℕ → ℕ → Name → Body
 one-number k n i f = bound 6 k 1 n (lent-to i f (nums (n ∷ [])))
 
--- a scan has its reader in local 9 and its partition in 10
+-- a scan has its reader in local 7 and its partition in 8
 abbrev pub the-readers : Body
-the-readers = switch (copy (place (loc 9) (variant 0 ∷ field 0 ∷ [])))
-    (arm (0 ∷ []) (bound (loc 9) 0 1 11 (scan-to 49 scan-rw-def.name (nums (11 ∷ 10 ∷ []))))
-    (arm (1 ∷ []) (bound (loc 9) 1 1 12 (scan-to 56 scan-ro-def.name (nums (12 ∷ 10 ∷ [])))) noDefault))
+the-readers = switch (copy (place (loc 7) (variant 0 ∷ field 0 ∷ [])))
+    (arm (0 ∷ []) (bound (loc 7) 0 1 9 (scan-to 34 scan-rw-def.name (nums (9 ∷ 8 ∷ []))))
+    (arm (1 ∷ []) (bound (loc 7) 1 1 10 (scan-to 41 scan-ro-def.name (nums (10 ∷ 8 ∷ [])))) noDefault))
 
 abbrev pub scans : Body
 scans = seq the-readers the-answer
@@ -98,18 +94,17 @@ scans = seq the-readers the-answer
 -- the match: an arm for each command, and the locals that it has
 abbrev pub the-match : Body
 the-match = switch (copy (place 6 (variant 0 ∷ field 0 ∷ [])))
-    (arm (0 ∷ []) (one-number 0 0 16 create-def.name)
-    (arm (1 ∷ []) (lent-to 20 begin-def.name [])
-    (arm (2 ∷ []) (bound 6 2 1 1 (bound 6 2 2 2 (lent-to 24 append-def.name (copy (place 4 []) ∷ nums (1 ∷ 2 ∷ [])))))
-    (arm (3 ∷ []) (bound 6 3 1 3 (bound 6 3 2 4 (lent-to 28 clear-def.name (nums (3 ∷ 4 ∷ [])))))
-    (arm (4 ∷ []) (one-number 4 5 32 commit-def.name) (arm (5 ∷ []) (one-number 5 6 36 roll-back-def.name)
-    (arm (6 ∷ []) (one-number 6 7 40 begin-ro-def.name) (arm (7 ∷ []) (one-number 7 8 44 end-ro-def.name)
-    (arm (8 ∷ []) (bound 6 8 1 9 (bound 6 8 2 10 scans)) (arm (9 ∷ []) (one-number 9 13 63 advance-lse-def.name)
-    (arm (10 ∷ []) (one-number 10 14 67 purge-def.name) noDefault)))))))))))
+    (arm (0 ∷ []) (one-number 0 0 13 create-def.name)
+    (arm (1 ∷ []) (one-number 1 1 17 manage-def.name)
+    (arm (2 ∷ []) (bound 6 2 1 2 (bound 6 2 2 3 (lent-to 21 append-def.name (copy (place 4 []) ∷ nums (2 ∷ 3 ∷ [])))))
+    (arm (3 ∷ []) (bound 6 3 1 4 (bound 6 3 2 5 (lent-to 25 clear-def.name (nums (4 ∷ 5 ∷ [])))))
+    (arm (4 ∷ []) (one-number 4 6 29 roll-back-def.name)
+    (arm (5 ∷ []) (bound 6 5 1 7 (bound 6 5 2 8 scans))
+    (arm (6 ∷ []) (one-number 6 11 48 purge-def.name) noDefault)))))))
 
 -- what follows it
 abbrev pub the-rest : Body
-the-rest = seq (assign (place 0 []) (rvOpd (copy (place (loc 15) [])))) return
+the-rest = seq (assign (place 0 []) (rvOpd (copy (place (loc 12) [])))) return
 
 pub is-match : code.function .body ≡ seq the-match the-rest
 is-match = refl

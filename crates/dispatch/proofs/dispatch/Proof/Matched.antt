@@ -37,8 +37,7 @@ use denote.Exit.{yes}
 use Rattle.rules.specs.Step.{step, callOf}
 use Rattle.rules.specs.declared.Answer.{Answer}
 use Rattle.rules.specs.declared.Command.{Command}
-use Rattle.rules.specs.declared.Command.the-variants.{Create, Begin, Append, Clear, Commit, RollBack, BeginRo}
-use Rattle.rules.specs.declared.Command.the-variants.{EndRo, Scan, AdvanceLse, Purge}
+use Rattle.rules.specs.declared.Command.the-variants.{Create, Manage, Append, Clear, RollBack, Scan, Purge}
 use Rattle.rules.specs.declared.Reader.{Reader}
 use Rattle.rules.specs.declared.Reader.the-variants.{Rw, Ro}
 use Rattle.rules.specs.declared.State.{State}
@@ -50,21 +49,21 @@ use Rattle.rules.proofs.Entry as T
 use Rattle.rules.proofs.Reader as Rd
 use Rattle.rules.proofs.Reader.Laws as Rd′
 use Rattle.rules.proofs.State as K
-use Rattle.lent.proofs.Locals.{Blocks, envOf, typeOf, Lies, lies-as, spot-of, spot}
-use Rattle.lent.proofs.Frame.{Use, holds, Frame, Has, In, bares, frees-frame, sets, within, get}
-use Rattle.lent.proofs.Lend.{token, refOf, valOf}
-use Rattle.store.proofs.Types.{kept}
-use Rattle.store.proofs.begin.Symbol as begin-def
+use Rattle.walks.proofs.Locals.{Blocks, envOf, typeOf, Lies, lies-as, spot-of, spot}
+use Rattle.walks.proofs.Frame.{Use, holds, Frame, Has, In, bares, frees-frame, sets, within, get}
+use Rattle.walks.proofs.Lend.{token, refOf, valOf}
+use Rattle.walks.proofs.Loans.{Callee}
+use Rattle.walks.proofs.Groups.{part-of, puts-at, goes-out}
+use Rattle.shapes.proofs.Core.{books}
+use Rattle.walks.proofs.Shown.{Shown, number}
+use Rattle.shapes.proofs.Callers.{write, batch, Lenders, Lists, AsLong, Slices, Calls as Sig, Tells-of}
+use Rattle.store.proofs.Types.{kept, managerCall}
 use Rattle.store.proofs.append.Symbol as append-def
 use Rattle.store.proofs.clear.Symbol as clear-def
 use Rattle.store.proofs.scan_rw.Symbol as scan-rw-def
 use Rattle.store.proofs.scan_ro.Symbol as scan-ro-def
 use Rattle.dispatch.specs.Dispatch.{Did}
-use Rattle.dispatch.proofs.Groups.{part-of, puts-at, goes-out}
-use Rattle.dispatch.proofs.Loans.{Callee}
-use Rattle.dispatch.proofs.Arms.{look, write, append as append-kind, Lenders, Lists, AsLong}
-use Rattle.dispatch.proofs.Arms.{Slices, Calls as Sig, Tells-of}
-use Rattle.dispatch.proofs.Turning.{books, command}
+use Rattle.dispatch.proofs.Turning.{command}
 use Rattle.dispatch.proofs.dispatch as f
 use Rattle.dispatch.proofs.dispatch.Proof.Arm.{kept-by, kindOf, none, Params, Temps, lentAt, armed, scanned}
 use Rattle.dispatch.proofs.dispatch.Proof.Match.{reader, word, firsts, others, loc, up, bound, nums, lent-to}
@@ -130,8 +129,8 @@ module _ {M : Type 1} (𝓤 : URA M) (H : Heap 𝓤) (A : Atoms 𝓤) (W : Given
     lies : (i : ℕ) (τ : Ty) → typeOf others i ≡ τ → Lies 𝓤 H Gs i τ
     lies = lies-as 𝓤 H others Gs (spot-of 𝓤 H others gs)
 
-    l9 : Lies 𝓤 H Gs 9 Rd′.mir
-    l9 = refl
+    l7 : Lies 𝓤 H Gs 7 Rd′.mir
+    l7 = refl
 
     -- what is to hold where an arm ends
     abbrev Then : Command → Kit.Post 𝓤 H
@@ -150,11 +149,11 @@ module _ {M : Type 1} (𝓤 : URA M) (H : Heap 𝓤) (A : Atoms 𝓤) (W : Given
     Opened cm = Walked cm fresh
 
     -- the value of the match is returned, and the locals are freed
-    leaves : (cm : Command) (m : List Use) (r : Kept) → Has 15 m (kept .val r) → (ls : Lists) → AsLong y ls → Done cm
+    leaves : (cm : Command) (m : List Use) (r : Kept) → Has 12 m (kept .val r) → (ls : Lists) → AsLong y ls → Done cm
         r ls → Is (kept .row) r (kept .val r ∷ []) → Sq W (Slices y ls ++ (Given-to cm ∷ Frame Gs m ∷ [])) (prop (post
         𝓤 H (Then cm) next))
     leaves cm m r h ls e did ga = exec ! C Λ E the-rest (atRet E (Post cm)) $
-        assigns ! (of-opd ! (get ! 5 15 refl refl h)) (spot ! refl (stop !)) (sets ! 4 0 refl tt (kept .wt 𝓤 H A W r
+        assigns ! (of-opd ! (get ! 5 12 refl refl h)) (spot ! refl (stop !)) (sets ! 4 0 refl tt (kept .wt 𝓤 H A W r
             ga)) $ returns ! (look-in ! 4 (within ! 0 refl)) $
         move ! (4 ∷ 5 ∷ []) $ frees-frame ! (envOf firsts fs) Gs $ frees-frame ! Gs [] $ free0 ! $
         by ! (exits cm r ls e did ga)
@@ -162,158 +161,146 @@ module _ {M : Type 1} (𝓤 : URA M) (H : Heap 𝓤) (A : Atoms 𝓤) (W : Given
     abbrev Answering : Command → Kit.Post 𝓤 H
     Answering cm = anyQ (afterSeq 𝓤 H (Wp 𝓤 H C Λ E the-answer (post 𝓤 H (Then cm))) (post 𝓤 H (Then cm)))
 
-    -- the answer of a scan goes from local 48 to 15
-    answers : (cm : Command) (m : List Use) (r : Answer) → Has 48 m (kept .val (kept-by r bk)) → In 15 m → ((v : Val)
-        → Has 15 (set m 15 (holds v)) v) → (ls : Lists) → AsLong y ls → Done cm (kept-by r bk) ls
+    -- the answer of a scan goes from local 33 to 12
+    answers : (cm : Command) (m : List Use) (r : Answer) → Has 33 m (kept .val (kept-by r bk)) → In 12 m → ((v : Val)
+        → Has 12 (set m 12 (holds v)) v) → (ls : Lists) → AsLong y ls → Done cm (kept-by r bk) ls
         → Is (kept .row) (kept-by r bk) (kept .val (kept-by r bk) ∷ [])
         → Sq W (Slices y ls ++ (Given-to cm ∷ Frame Gs m ∷ [])) (prop (post 𝓤 H (Answering cm) next))
-    answers cm m r h i₁₅ h₁₅ ls e did ga = exec ! C Λ E the-answer (Then cm) $
-        assigns-last ! (of-opd ! (get ! 5 48 refl refl h)) (spot ! (lies 15 (kept .mir) refl) (stop !)) (puts-at ! 5
-            15 refl (lies 15 (kept .mir) refl) i₁₅ (kept .wt 𝓤 H A W (kept-by r bk) ga)) $
-        leaves cm _ (kept-by r bk) (h₁₅ _) ls e did ga
+    answers cm m r h i₁₂ h₁₂ ls e did ga = exec ! C Λ E the-answer (Then cm) $
+        assigns-last ! (of-opd ! (get ! 5 33 refl refl h)) (spot ! (lies 12 (kept .mir) refl) (stop !)) (puts-at ! 5
+            12 refl (lies 12 (kept .mir) refl) i₁₂ (kept .wt 𝓤 H A W (kept-by r bk) ga)) $
+        leaves cm _ (kept-by r bk) (h₁₂ _) ls e did ga
 
     abbrev lent : ℕ → List Use → List Use
-    lent = lentAt 𝓤 H A W y bk gb fs Gs Begin
+    lent = lentAt 𝓤 H A W y bk gb fs Gs (Create 0)
 
-    abbrev with-one : ℕ → ℕ → List Use
-    with-one n x = set fresh n (holds (vint w64 x))
+    abbrev with-one : ℕ → Val → List Use
+    with-one n v = set fresh n (holds v)
 
-    -- an arm with one number x, field 1 of variant v, in local n: its slices from local i on
-    one : (cm : Command) (v x n i : ℕ) (μ : Mutability) {f : Name} → Temps 𝓤 H A W y bk gb fs Gs cm μ i → Lies 𝓤 H Gs
-        n word → In n fresh → In (up 3 i) (with-one n x) → In 15 (lent i (with-one n x)) → Has n (lent i (with-one n
-        x)) (vint w64 x) → ((r : Kept) → Has 15 (set (lent i (with-one n x)) 15 (holds (kept .val r))) (kept .val r))
-        → Opd (Kit.Go {0}) W (Opened cm) E (copy (place 6 (variant v ∷ field 1 ∷ []))) (vint w64 x) → x < 2 ^ 64
-        → (c : Callee 𝓤 H A C f (Sig y (kept .row) bk (x ∷ []) (kindOf μ)))
-        → Tells-of y (kept .row) bk (x ∷ []) 𝓤 H A C f (kindOf μ) c (Done cm)
+
+    -- an arm with one value x, field 1 of variant v, in local n: its slices from local i on
+    one : (cm : Command) (v : ℕ) (P : Shown) (x : P .row .Denot) (n i : ℕ) (μ : Mutability) {f : Name} → Temps 𝓤 H A W y
+        bk gb fs Gs cm μ i → Lies 𝓤 H Gs n (P .mir) → In n fresh → In (up 3 i) (with-one n (P .val x)) → In 12 (lent i
+        (with-one n (P .val x))) → Has n (lent i (with-one n (P .val x))) (P .val x) → ((r : Kept) → Has 12 (set (lent i
+        (with-one n (P .val x))) 12 (holds (kept .val r))) (kept .val r))
+        → Opd (Kit.Go {0}) W (Opened cm) E (copy (place 6 (variant v ∷ field 1 ∷ []))) (P .val x)
+        → Is (P .row) x (P .val x ∷ []) → (c : Callee 𝓤 H A C f (Sig y kept bk (P ∷ []) (x, tt) (kindOf μ)))
+        → Tells-of y kept bk (P ∷ []) (x, tt) 𝓤 H A C f (kindOf μ) c (Done cm)
         → Sq W (Opened cm) (prop (Wp 𝓤 H C Λ E (one-number v n i f) (post 𝓤 H (Then cm))))
-    one cm v x n i μ {f} t tn hn hi h₁₅ hx hr rd fits c told = exec ! C Λ E (one-number v n i f) (Then cm) $
-        assigns ! (of-opd ! rd) (spot ! tn (stop !)) (puts-at ! 1 n refl tn hn (tt, record { fits = fits })) $
-        armed 𝓤 H A W y bk gb fs Gs cm fm f (nums (n ∷ [])) (x ∷ []) (fits, tt) (kindOf μ) μ i t hi refl h₁₅ c (Done
-            cm) told (λ i′ j l. subst (λ (vs : List Val). Opds (Kit.Go {0}) W (i′ ∷ j ∷ l ∷ Given-to cm ∷ Frame Gs
-            (lent i (with-one n x)) ∷ []) E (nums (n ∷ [])) (vs ++ (vint w64 x ∷ []))) (none y μ) (and-then ! (get ! 4
-            n refl refl hx) (no-more !)))
+    one cm v P x n i μ {f} t tn hn hi h₁₂ hx hr rd fits c told = exec ! C Λ E (one-number v n i f) (Then cm) $
+        assigns ! (of-opd ! rd) (spot ! tn (stop !)) (puts-at ! 1 n refl tn hn (P .wt 𝓤 H A W x fits)) $
+        armed 𝓤 H A W y bk gb fs Gs cm fm f (nums (n ∷ [])) (P ∷ []) (x, tt) (fits, tt) (kindOf μ) μ i t hi refl h₁₂ c
+            (Done cm) told (λ i′ j l. subst (λ (vs : List Val). Opds (Kit.Go {0}) W (i′ ∷ j ∷ l ∷ Given-to cm ∷ Frame Gs
+            (lent i (with-one n (P .val x))) ∷ []) E (nums (n ∷ [])) (vs ++ (P .val x ∷ []))) (none y μ) (and-then !
+                (get
+            ! 4 n refl refl hx) (no-more !)))
         (λ r ls e p is. leaves cm _ r (hr r) ls e p is)
 
     scans-by : (rd : Reader) (p : ℕ) → Is Rd.the-row rd (reader rd ∷ []) → p < 2 ^ 64
-        → Sq W (Walked (Scan rd p) (set (set fresh 9 (holds (reader rd))) 10 (holds (vint w64 p)))) (runs C Λ E scans
+        → Sq W (Walked (Scan rd p) (set (set fresh 7 (holds (reader rd))) 8 (holds (vint w64 p)))) (runs C Λ E scans
             (Then (Scan rd p)))
     scans-by (Rw i) p g fp = let fi = EL.owed Rd.the-type Rd′.the-laws (Rw i) _ g .0 .1 in first ! $
-        switches-on ! (load ! (spot ! l9 (vrt ! refl (fld ! refl (stop !)))) (look-tag ! 1 (part-of ! 9 l9 refl))) $
-        exec ! C Λ E (bound (loc 9) 0 1 11 (scan-to 49 scan-rw-def.name (nums (11 ∷ 10 ∷ [])))) (Answering (Scan (Rw
+        switches-on ! (load ! (spot ! l7 (vrt ! refl (fld ! refl (stop !)))) (look-tag ! 1 (part-of ! 7 l7 refl))) $
+        exec ! C Λ E (bound (loc 7) 0 1 9 (scan-to 34 scan-rw-def.name (nums (9 ∷ 8 ∷ [])))) (Answering (Scan (Rw
             i) p)) $
-        assigns ! (of-opd ! (load ! (spot ! l9 (vrt ! refl (fld ! refl (stop !)))) (look-in ! 1 (in-variant ! 0 0 refl
-            refl (part-of ! 9 l9 refl))))) (spot ! (lies 11 word refl) (stop !)) (puts-at ! 1 11 refl (lies 11 word
+        assigns ! (of-opd ! (load ! (spot ! l7 (vrt ! refl (fld ! refl (stop !)))) (look-in ! 1 (in-variant ! 0 0 refl
+            refl (part-of ! 7 l7 refl))))) (spot ! (lies 9 word refl) (stop !)) (puts-at ! 1 9 refl (lies 9 word
             refl) tt (tt, record { fits = fi })) $
-        scanned 𝓤 H A W y bk gb fs Gs (Scan (Rw i) p) fm scan-rw-def.name (nums (11 ∷ 10 ∷ [])) (i ∷ p ∷ []) (fi, (fp,
-            tt)) 49 (refl, refl, refl, refl) tt (refl, refl, refl, refl) (tt, refl, tt, refl, refl, refl, tt, (λ _.
+        scanned 𝓤 H A W y bk gb fs Gs (Scan (Rw i) p) fm scan-rw-def.name (nums (9 ∷ 8 ∷ [])) (number ∷ number ∷ [])
+            (i, (p, tt))
+            ((refl, fi), ((refl, fp), tt)) 34 (refl, refl, refl, refl) tt (refl, refl, refl, refl) (tt, refl, tt,
+            refl, refl, refl, tt, (λ _.
             refl), (λ _. tt)) (by-theorem.scan-rw-by 𝓤 H A at-mem run C known) (λ r. Done (Scan (Rw i) p) (kept-by r
                 bk)) (λ _ _ _. swapped 𝓤)
-        (λ _ _ _. and-then ! (get ! 4 11 refl refl refl) (and-then ! (get ! 4 10 refl refl refl) (no-more !)))
+        (λ _ _ _. and-then ! (get ! 4 9 refl refl refl) (and-then ! (get ! 4 8 refl refl refl) (no-more !)))
         (λ r. answers (Scan (Rw i) p) _ r refl tt (λ _. refl))
     scans-by (Ro i) p g fp = let fi = EL.owed Rd.the-type Rd′.the-laws (Ro i) _ g .0 .1 in first ! $
-        switches-on ! (load ! (spot ! l9 (vrt ! refl (fld ! refl (stop !)))) (look-tag ! 1 (part-of ! 9 l9 refl))) $
-        exec ! C Λ E (bound (loc 9) 1 1 12 (scan-to 56 scan-ro-def.name (nums (12 ∷ 10 ∷ [])))) (Answering (Scan (Ro
+        switches-on ! (load ! (spot ! l7 (vrt ! refl (fld ! refl (stop !)))) (look-tag ! 1 (part-of ! 7 l7 refl))) $
+        exec ! C Λ E (bound (loc 7) 1 1 10 (scan-to 41 scan-ro-def.name (nums (10 ∷ 8 ∷ [])))) (Answering (Scan (Ro
             i) p)) $
-        assigns ! (of-opd ! (load ! (spot ! l9 (vrt ! refl (fld ! refl (stop !)))) (look-in ! 1 (in-variant ! 1 0 refl
-            refl (part-of ! 9 l9 refl))))) (spot ! (lies 12 word refl) (stop !)) (puts-at ! 1 12 refl (lies 12 word
+        assigns ! (of-opd ! (load ! (spot ! l7 (vrt ! refl (fld ! refl (stop !)))) (look-in ! 1 (in-variant ! 1 0 refl
+            refl (part-of ! 7 l7 refl))))) (spot ! (lies 10 word refl) (stop !)) (puts-at ! 1 10 refl (lies 10 word
             refl) tt (tt, record { fits = fi })) $
-        scanned 𝓤 H A W y bk gb fs Gs (Scan (Ro i) p) fm scan-ro-def.name (nums (12 ∷ 10 ∷ [])) (i ∷ p ∷ []) (fi, (fp,
-            tt)) 56 (refl, refl, refl, refl) tt (refl, refl, refl, refl) (tt, refl, tt, refl, refl, refl, tt, (λ _.
+        scanned 𝓤 H A W y bk gb fs Gs (Scan (Ro i) p) fm scan-ro-def.name (nums (10 ∷ 8 ∷ [])) (number ∷ number ∷ [])
+            (i, (p, tt))
+            ((refl, fi), ((refl, fp), tt)) 41 (refl, refl, refl, refl) tt (refl, refl, refl, refl) (tt, refl, tt,
+            refl, refl, refl, tt, (λ _.
             refl), (λ _. tt)) (by-theorem.scan-ro-by 𝓤 H A at-mem run C known) (λ r. Done (Scan (Ro i) p) (kept-by r
                 bk)) (λ _ _ _. swapped 𝓤)
-        (λ _ _ _. and-then ! (get ! 4 12 refl refl refl) (and-then ! (get ! 4 10 refl refl refl) (no-more !)))
+        (λ _ _ _. and-then ! (get ! 4 10 refl refl refl) (and-then ! (get ! 4 8 refl refl refl) (no-more !)))
         (λ r. answers (Scan (Ro i) p) _ r refl tt (λ _. refl))
 
     pub matched : (cm : Command) → Is Cm.the-row cm (command cm ∷ []) → Sq W (Opened cm) (runs C Λ E the-match (Then
         cm))
     matched (Create n) g =
         switches-on ! (load ! (spot ! l6 (vrt ! refl (fld ! refl (stop !)))) (look-tag ! 0 (part-of ! 6 l6 refl))) $
-        one (Create n) 0 n 0 16 imm (refl, refl, refl, refl) refl tt tt tt refl (λ _. refl) (load ! (spot ! l6 (vrt !
+        one (Create n) 0 number n 0 13 imm (refl, refl, refl, refl) refl tt tt tt refl (λ _. refl) (load ! (spot !
+            l6 (vrt !
             refl (fld ! refl (stop !)))) (look-in ! 0 (in-variant ! 0 0 refl refl (part-of ! 6 l6 refl)))) (EL.owed
-            Cm.the-type Cm′.the-laws (Create n) _ g .0 .1) (by-theorem.create-by 𝓤 H A at-mem run C known) (λ _ _ _.
+            Cm.the-type Cm′.the-laws (Create n) _ g .0) (by-theorem.create-by 𝓤 H A at-mem run C known) (λ _ _ _.
             plus 𝓤 refl)
-    matched Begin g =
+    matched (Manage c) g =
         switches-on ! (load ! (spot ! l6 (vrt ! refl (fld ! refl (stop !)))) (look-tag ! 0 (part-of ! 6 l6 refl))) $
-        exec ! C Λ E (lent-to 20 begin-def.name []) (Then Begin) $
-        armed 𝓤 H A W y bk gb fs Gs Begin fm begin-def.name [] [] tt look imm 20 (refl, refl, refl, refl) tt refl tt
-            (by-theorem.begin-by 𝓤 H A at-mem run C known) (Done Begin) (λ _ _ _. plus 𝓤 refl)
-        (λ _ _ _. no-more !) (λ r ls e p is. leaves Begin _ r refl ls e p is)
+        one (Manage c) 1 managerCall c 1 17 imm (refl, refl, refl, refl) refl tt tt tt refl (λ
+            _. refl) (load ! (spot ! l6 (vrt ! refl (fld ! refl (stop !)))) (look-in ! 0 (in-variant ! 1 0 refl refl
+            (part-of ! 6 l6 refl)))) (EL.owed Cm.the-type Cm′.the-laws (Manage c) _ g .0) (by-theorem.manage-by 𝓤 H A
+            at-mem run C known) (λ _ _ _. plus 𝓤 refl)
     matched (Append i p) g =
         let fits = EL.owed Cm.the-type Cm′.the-laws (Append i p) _ g in
         switches-on ! (load ! (spot ! l6 (vrt ! refl (fld ! refl (stop !)))) (look-tag ! 0 (part-of ! 6 l6 refl))) $
-        exec ! C Λ E (bound 6 2 1 1 (bound 6 2 2 2 (lent-to 24 append-def.name (copy (place 4 []) ∷ nums (1 ∷ 2 ∷
+        exec ! C Λ E (bound 6 2 1 2 (bound 6 2 2 3 (lent-to 21 append-def.name (copy (place 4 []) ∷ nums (2 ∷ 3 ∷
             []))))) (Then (Append i p)) $
         assigns ! (of-opd ! (load ! (spot ! l6 (vrt ! refl (fld ! refl (stop !)))) (look-in ! 0 (in-variant ! 2 0 refl
-            refl (part-of ! 6 l6 refl))))) (spot ! (lies 1 word refl) (stop !)) (puts-at ! 1 1 refl (lies 1 word refl)
+            refl (part-of ! 6 l6 refl))))) (spot ! (lies 2 word refl) (stop !)) (puts-at ! 1 2 refl (lies 2 word refl)
             tt (tt, record { fits = fits .0 .1 })) $
         assigns ! (of-opd ! (load ! (spot ! l6 (vrt ! refl (fld ! refl (stop !)))) (look-in ! 0 (in-variant ! 2 1 refl
-            refl (part-of ! 6 l6 refl))))) (spot ! (lies 2 word refl) (stop !)) (puts-at ! 1 2 refl (lies 2 word refl)
+            refl (part-of ! 6 l6 refl))))) (spot ! (lies 3 word refl) (stop !)) (puts-at ! 1 3 refl (lies 3 word refl)
             tt (tt, record { fits = fits .1 .0 .1 })) $
-        armed 𝓤 H A W y bk gb fs Gs (Append i p) fm append-def.name (copy (place 4 []) ∷ nums (1 ∷ 2 ∷ [])) (i ∷ p ∷
-            []) (fits .0 .1, (fits .1 .0 .1, tt)) append-kind mut 24 (refl, refl, refl, refl) tt refl tt
+        armed 𝓤 H A W y bk gb fs Gs (Append i p) fm append-def.name (copy (place 4 []) ∷ nums (2 ∷ 3 ∷ [])) (number ∷
+            number ∷ []) (i, (p, tt)) (fits .0, (fits .1 .0, tt)) batch mut 21 (refl, refl, refl, refl) tt refl tt
             (by-theorem.append-by 𝓤 H A at-mem run C known) (Done (Append i p)) (λ _ _ _. plus 𝓤 refl)
-        (λ _ _ _. and-then ! (get ! 3 4 refl refl refl) (and-then ! (get ! 4 1 refl refl refl) (and-then ! (get ! 4 2
+        (λ _ _ _. and-then ! (get ! 3 4 refl refl refl) (and-then ! (get ! 4 2 refl refl refl) (and-then ! (get ! 4 3
             refl refl refl) (no-more !)))) (λ r ls e did is. leaves (Append i p) _ r refl ls e did is)
     matched (Clear i p) g =
         let fits = EL.owed Cm.the-type Cm′.the-laws (Clear i p) _ g in
         switches-on ! (load ! (spot ! l6 (vrt ! refl (fld ! refl (stop !)))) (look-tag ! 0 (part-of ! 6 l6 refl))) $
-        exec ! C Λ E (bound 6 3 1 3 (bound 6 3 2 4 (lent-to 28 clear-def.name (nums (3 ∷ 4 ∷ []))))) (Then (Clear i
+        exec ! C Λ E (bound 6 3 1 4 (bound 6 3 2 5 (lent-to 25 clear-def.name (nums (4 ∷ 5 ∷ []))))) (Then (Clear i
             p)) $
         assigns ! (of-opd ! (load ! (spot ! l6 (vrt ! refl (fld ! refl (stop !)))) (look-in ! 0 (in-variant ! 3 0 refl
-            refl (part-of ! 6 l6 refl))))) (spot ! (lies 3 word refl) (stop !)) (puts-at ! 1 3 refl (lies 3 word refl)
+            refl (part-of ! 6 l6 refl))))) (spot ! (lies 4 word refl) (stop !)) (puts-at ! 1 4 refl (lies 4 word refl)
             tt (tt, record { fits = fits .0 .1 })) $
         assigns ! (of-opd ! (load ! (spot ! l6 (vrt ! refl (fld ! refl (stop !)))) (look-in ! 0 (in-variant ! 3 1 refl
-            refl (part-of ! 6 l6 refl))))) (spot ! (lies 4 word refl) (stop !)) (puts-at ! 1 4 refl (lies 4 word refl)
+            refl (part-of ! 6 l6 refl))))) (spot ! (lies 5 word refl) (stop !)) (puts-at ! 1 5 refl (lies 5 word refl)
             tt (tt, record { fits = fits .1 .0 .1 })) $
-        armed 𝓤 H A W y bk gb fs Gs (Clear i p) fm clear-def.name (nums (3 ∷ 4 ∷ [])) (i ∷ p ∷ []) (fits .0 .1, (fits
-            .1 .0 .1, tt)) write mut 28 (refl, refl, refl, refl) tt refl tt (by-theorem.clear-by 𝓤 H A at-mem run C
+        armed 𝓤 H A W y bk gb fs Gs (Clear i p) fm clear-def.name (nums (4 ∷ 5 ∷ [])) (number ∷ number ∷ []) (i, (p,
+            tt)) (fits
+            .0, (fits .1 .0, tt)) write mut 25 (refl, refl, refl, refl) tt refl tt (by-theorem.clear-by 𝓤 H A
+            at-mem run C
             known) (Done (Clear i p)) (λ _ _ _. plus 𝓤 refl)
-        (λ _ _ _. and-then ! (get ! 4 3 refl refl refl) (and-then ! (get ! 4 4 refl refl refl) (no-more !))) (λ r ls e
+        (λ _ _ _. and-then ! (get ! 4 4 refl refl refl) (and-then ! (get ! 4 5 refl refl refl) (no-more !))) (λ r ls e
             did is. leaves (Clear i p) _ r refl ls e did is)
-    matched (Commit n) g =
-        switches-on ! (load ! (spot ! l6 (vrt ! refl (fld ! refl (stop !)))) (look-tag ! 0 (part-of ! 6 l6 refl))) $
-        one (Commit n) 4 n 5 32 imm (refl, refl, refl, refl) refl tt tt tt refl (λ _. refl) (load ! (spot ! l6 (vrt !
-            refl (fld ! refl (stop !)))) (look-in ! 0 (in-variant ! 4 0 refl refl (part-of ! 6 l6 refl)))) (EL.owed
-            Cm.the-type Cm′.the-laws (Commit n) _ g .0 .1) (by-theorem.commit-by 𝓤 H A at-mem run C known) (λ _ _ _.
-            plus 𝓤 refl)
     matched (RollBack n) g =
         switches-on ! (load ! (spot ! l6 (vrt ! refl (fld ! refl (stop !)))) (look-tag ! 0 (part-of ! 6 l6 refl))) $
-        one (RollBack n) 5 n 6 36 mut (refl, refl, refl, refl) refl tt tt tt refl (λ _. refl) (load ! (spot ! l6 (vrt
-            ! refl (fld ! refl (stop !)))) (look-in ! 0 (in-variant ! 5 0 refl refl (part-of ! 6 l6 refl)))) (EL.owed
-            Cm.the-type Cm′.the-laws (RollBack n) _ g .0 .1) (by-theorem.roll-back-by 𝓤 H A at-mem run C known) (λ _ _
+        one (RollBack n) 4 number n 6 29 mut (refl, refl, refl, refl) refl tt tt tt refl (λ _. refl) (load ! (spot !
+            l6 (vrt
+            ! refl (fld ! refl (stop !)))) (look-in ! 0 (in-variant ! 4 0 refl refl (part-of ! 6 l6 refl)))) (EL.owed
+            Cm.the-type Cm′.the-laws (RollBack n) _ g .0) (by-theorem.roll-back-by 𝓤 H A at-mem run C known) (λ _ _
             _. plus 𝓤 refl)
-    matched (BeginRo n) g =
-        switches-on ! (load ! (spot ! l6 (vrt ! refl (fld ! refl (stop !)))) (look-tag ! 0 (part-of ! 6 l6 refl))) $
-        one (BeginRo n) 6 n 7 40 imm (refl, refl, refl, refl) refl tt tt tt refl (λ _. refl) (load ! (spot ! l6 (vrt !
-            refl (fld ! refl (stop !)))) (look-in ! 0 (in-variant ! 6 0 refl refl (part-of ! 6 l6 refl)))) (EL.owed
-            Cm.the-type Cm′.the-laws (BeginRo n) _ g .0 .1) (by-theorem.begin-ro-by 𝓤 H A at-mem run C known) (λ _ _
-            _. plus 𝓤 refl)
-    matched (EndRo n) g =
-        switches-on ! (load ! (spot ! l6 (vrt ! refl (fld ! refl (stop !)))) (look-tag ! 0 (part-of ! 6 l6 refl))) $
-        one (EndRo n) 7 n 8 44 imm (refl, refl, refl, refl) refl tt tt tt refl (λ _. refl) (load ! (spot ! l6 (vrt !
-            refl (fld ! refl (stop !)))) (look-in ! 0 (in-variant ! 7 0 refl refl (part-of ! 6 l6 refl)))) (EL.owed
-            Cm.the-type Cm′.the-laws (EndRo n) _ g .0 .1) (by-theorem.end-ro-by 𝓤 H A at-mem run C known) (λ _ _ _.
-            plus 𝓤 refl)
     matched (Scan rd p) g =
         let fits = EL.owed Cm.the-type Cm′.the-laws (Scan rd p) _ g in
         switches-on ! (load ! (spot ! l6 (vrt ! refl (fld ! refl (stop !)))) (look-tag ! 0 (part-of ! 6 l6 refl))) $
-        exec ! C Λ E (bound 6 8 1 9 (bound 6 8 2 10 scans)) (Then (Scan rd p)) $
-        assigns ! (of-opd ! (load ! (spot ! l6 (vrt ! refl (fld ! refl (stop !)))) (look-in ! 0 (in-variant ! 8 0 refl
-            refl (part-of ! 6 l6 refl))))) (spot ! l9 (stop !)) (puts-at ! 1 9 refl l9 tt (EL.lawful Rd.the-type
+        exec ! C Λ E (bound 6 5 1 7 (bound 6 5 2 8 scans)) (Then (Scan rd p)) $
+        assigns ! (of-opd ! (load ! (spot ! l6 (vrt ! refl (fld ! refl (stop !)))) (look-in ! 0 (in-variant ! 5 0 refl
+            refl (part-of ! 6 l6 refl))))) (spot ! l7 (stop !)) (puts-at ! 1 7 refl l7 tt (EL.lawful Rd.the-type
             Rd′.the-laws 𝓤 H A W tt .typed rd _ (fits .0) .0)) $
-        assigns ! (of-opd ! (load ! (spot ! l6 (vrt ! refl (fld ! refl (stop !)))) (look-in ! 0 (in-variant ! 8 1 refl
-            refl (part-of ! 6 l6 refl))))) (spot ! (lies 10 word refl) (stop !)) (puts-at ! 1 10 refl (lies 10 word
+        assigns ! (of-opd ! (load ! (spot ! l6 (vrt ! refl (fld ! refl (stop !)))) (look-in ! 0 (in-variant ! 5 1 refl
+            refl (part-of ! 6 l6 refl))))) (spot ! (lies 8 word refl) (stop !)) (puts-at ! 1 8 refl (lies 8 word
             refl) tt (tt, record { fits = fits .1 .0 .1 })) $
         scans-by rd p (fits .0) (fits .1 .0 .1)
-    matched (AdvanceLse n) g =
-        switches-on ! (load ! (spot ! l6 (vrt ! refl (fld ! refl (stop !)))) (look-tag ! 0 (part-of ! 6 l6 refl))) $
-        one (AdvanceLse n) 9 n 13 63 imm (refl, refl, refl, refl) refl tt tt tt refl (λ _. refl) (load ! (spot ! l6
-            (vrt ! refl (fld ! refl (stop !)))) (look-in ! 0 (in-variant ! 9 0 refl refl (part-of ! 6 l6 refl))))
-            (EL.owed Cm.the-type Cm′.the-laws (AdvanceLse n) _ g .0 .1) (by-theorem.advance-lse-by 𝓤 H A at-mem run C
-            known) (λ _ _ _. plus 𝓤 refl)
     matched (Purge n) g =
         switches-on ! (load ! (spot ! l6 (vrt ! refl (fld ! refl (stop !)))) (look-tag ! 0 (part-of ! 6 l6 refl))) $
-        one (Purge n) 10 n 14 67 mut (refl, refl, refl, refl) refl tt tt tt refl (λ _. refl) (load ! (spot ! l6 (vrt !
-            refl (fld ! refl (stop !)))) (look-in ! 0 (in-variant ! 10 0 refl refl (part-of ! 6 l6 refl)))) (EL.owed
-            Cm.the-type Cm′.the-laws (Purge n) _ g .0 .1) (by-theorem.purge-by 𝓤 H A at-mem run C known) (λ _ _ _.
+        one (Purge n) 6 number n 11 48 mut (refl, refl, refl, refl) refl tt tt tt refl (λ _. refl) (load ! (spot !
+            l6 (vrt !
+            refl (fld ! refl (stop !)))) (look-in ! 0 (in-variant ! 6 0 refl refl (part-of ! 6 l6 refl)))) (EL.owed
+            Cm.the-type Cm′.the-laws (Purge n) _ g .0) (by-theorem.purge-by 𝓤 H A at-mem run C known) (λ _ _ _.
             plus 𝓤 refl)

@@ -15,18 +15,9 @@ use Rattle.partition.proofs.append.append_plan.Tie as tie
 passed : (c : tie.Else1) → inRange (c .before .before .args .q) ≡ true
 passed c = sym (c .before .in-range .ensures) ∙ not-false _ (c .if1 .left)
 
-in-range-requires : tie.Need-in-range-requires
-in-range-requires c κs = search needs
-
-stay-requires : tie.Need-stay-requires
-stay-requires c κs = search needs
-
 returns : tie.Need-returns
 returns c = c .stay .ensures
     ∙ sym (appendPlan-out _ _ _ _ (sym (c .before .before .in-range .ensures) ∙ not-true _ (c .before .if1 .taken)))
-
-stay-requires-2 : tie.Need-stay-requires-2
-stay-requires-2 c κs = search needs
 
 returns-2 : tie.Need-returns-2
 returns-2 c = c .stay2 .ensures ∙ sym (appendPlan-none _ _ _ _ (passed (c .before .before)) (c .before .if2 .taken))
@@ -42,9 +33,6 @@ returns-3 c = c .append-at .ensures
 mul-last : tie.Need-mul-last
 mul-last c = let w = within _ (passed (c .before .before)) in omega arith
 
-sub-last : tie.Need-sub-last
-sub-last c = omega arith
-
 add-last : tie.Need-add-last
 add-last c = let w = within _ (passed (c .before .before)) in omega arith
 
@@ -53,12 +41,6 @@ mul-last-2 c = let w = within _ (passed (c .before .before)) in omega arith
 
 element-copy-out-last : tie.Need-element-copy-out-last
 element-copy-out-last c = let w = within _ (passed (c .before .before)) in omega arith
-
-does-grow-requires : tie.Need-does-grow-requires
-does-grow-requires c κs = search needs
-
-sub-append-at : tie.Need-sub-append-at
-sub-append-at c = omega arith
 
 append-at-requires-2 : tie.Need-append-at-requires-2
 append-at-requires-2 c κs = let w = within _ (passed (c .before .before .before .before .before)) in omega arith
@@ -79,6 +61,22 @@ returns-5 c = let a = c .before .before .before .before in c .append-at3 .ensure
 pub append-plan-spec : {M : Type 1} → statement M
 append-plan-spec =
     tie.close
-    (tie.spec in-range-requires stay-requires returns stay-requires-2 returns-2 append-at-requires returns-3
-      mul-last sub-last add-last mul-last-2 element-copy-out-last does-grow-requires sub-append-at
-      append-at-requires-2 returns-4 append-at-requires-3 returns-5)
+    (tie.spec
+    (λ c κs. search needs)
+    (λ c κs. search needs)
+    returns
+    (λ c κs. search needs)
+    returns-2
+    append-at-requires
+    returns-3
+    mul-last
+    (λ c. omega arith)
+    add-last
+    mul-last-2
+    element-copy-out-last
+    (λ c κs. search needs)
+    (λ c. omega arith)
+    append-at-requires-2
+    returns-4
+    append-at-requires-3
+    returns-5)

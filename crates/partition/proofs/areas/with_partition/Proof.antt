@@ -8,19 +8,16 @@ use Rattle.partition.proofs.Laws.Places.{partitions-8}
 use Rattle.partition.proofs.areas.with_partition.Statement.{statement}
 use Rattle.partition.proofs.areas.with_partition.Tie as tie
 
-mul-q : tie.Need-mul-q
-mul-q c = search needs
-
-element-set-from-q : tie.Need-element-set-from-q
-element-set-from-q c = search needs
-
-returns : tie.Need-returns
-returns c = search needs
-
 returns-2 : tie.Need-returns-2
 returns-2 c =
     let s = c .before in let a = s .args in let n = partitions-8 (a .ps) _ (s .good .0) in
     (λ i. record { at = sym (set-out (a .ps .at) (a .p) (a .q) (omega arith)) i; spare = a .ps .spare })
 
 pub with-partition-spec : {M : Type 1} → statement M
-with-partition-spec = tie.close (tie.spec mul-q element-set-from-q returns returns-2)
+with-partition-spec =
+    tie.close
+    (tie.spec
+    (λ c. search needs)
+    (λ c. search needs)
+    (λ c. search needs)
+    returns-2)

@@ -13,14 +13,15 @@ returns c = sym (putRows-out _ _ _ (omega arith))
 returns-2 : tie.Need-returns-2
 returns-2 c = sym (putRows-out _ _ _ (omega arith))
 
-copy-requires : tie.Need-copy-requires
-copy-requires c κs = search needs
-
-same-length : tie.Need-same-length
-same-length c = search needs
-
 returns-3 : tie.Need-returns-3
 returns-3 c = c .before .before .copy .ensures ∙ sym (putRows-fits _ _ _ (omega arith))
 
 pub put-rows-spec : {M : Type 1} → statement M
-put-rows-spec = tie.close (tie.spec returns returns-2 copy-requires same-length returns-3)
+put-rows-spec =
+    tie.close
+    (tie.spec
+    returns
+    returns-2
+    (λ c κs. search needs)
+    (λ c. search needs)
+    returns-3)

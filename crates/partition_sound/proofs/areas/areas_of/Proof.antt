@@ -9,30 +9,6 @@ use Rattle.partition_sound.proofs.Laws.Areas.{eight}
 use Rattle.partition_sound.proofs.areas.areas_of.Statement.{statement}
 use Rattle.partition_sound.proofs.areas.areas_of.Tie as tie
 
-element-copy-out-t7 : tie.Need-element-copy-out-t7
-element-copy-out-t7 c = search needs
-
-element-copy-out-t11 : tie.Need-element-copy-out-t11
-element-copy-out-t11 c = search needs
-
-element-copy-out-t15 : tie.Need-element-copy-out-t15
-element-copy-out-t15 c = search needs
-
-element-copy-out-t19 : tie.Need-element-copy-out-t19
-element-copy-out-t19 c = search needs
-
-element-copy-out-t23 : tie.Need-element-copy-out-t23
-element-copy-out-t23 c = search needs
-
-element-copy-out-t27 : tie.Need-element-copy-out-t27
-element-copy-out-t27 c = search needs
-
-element-copy-out-t31 : tie.Need-element-copy-out-t31
-element-copy-out-t31 c = search needs
-
-element-copy-out-t35 : tie.Need-element-copy-out-t35
-element-copy-out-t35 c = search needs
-
 returns : tie.Need-returns
 returns c =
     let ps = c .args .t1 in
@@ -41,5 +17,13 @@ returns c =
 pub areas-of-spec : {M : Type 1} → statement M
 areas-of-spec =
     tie.close
-    (tie.spec element-copy-out-t7 element-copy-out-t11 element-copy-out-t15 element-copy-out-t19
-      element-copy-out-t23 element-copy-out-t27 element-copy-out-t31 element-copy-out-t35 returns)
+    (tie.spec
+    (λ c. search needs)
+    (λ c. search needs)
+    (λ c. search needs)
+    (λ c. search needs)
+    (λ c. search needs)
+    (λ c. search needs)
+    (λ c. search needs)
+    (λ c. search needs)
+    returns)

@@ -7,21 +7,6 @@ use Rattle.partition_sound.proofs.Laws.Areas.{areasOk-is}
 use Rattle.partition_sound.proofs.areas.areas_ok.Statement.{statement}
 use Rattle.partition_sound.proofs.areas.areas_ok.Tie as tie
 
-areas-of-requires : tie.Need-areas-of-requires
-areas-of-requires c κs = search needs
-
-slice-aggregate-all-below : tie.Need-slice-aggregate-all-below
-slice-aggregate-all-below c = search needs
-
-all-below-requires : tie.Need-all-below-requires
-all-below-requires c κs = search needs
-
-slice-aggregate-all-differ : tie.Need-slice-aggregate-all-differ
-slice-aggregate-all-differ c = search needs
-
-all-differ-requires : tie.Need-all-differ-requires
-all-differ-requires c κs = search needs
-
 returns : tie.Need-returns
 returns c =
     let b = c .before .before .before in
@@ -37,5 +22,11 @@ returns-2 c =
 pub areas-ok-spec : {M : Type 1} → statement M
 areas-ok-spec =
     tie.close
-    (tie.spec areas-of-requires slice-aggregate-all-below all-below-requires slice-aggregate-all-differ
-      all-differ-requires returns returns-2)
+    (tie.spec
+    (λ c κs. search needs)
+    (λ c. search needs)
+    (λ c κs. search needs)
+    (λ c. search needs)
+    (λ c κs. search needs)
+    returns
+    returns-2)

@@ -28,33 +28,12 @@ returns c = let a = c .before .before .args in kept-before (a .buffer .now) (a .
 returns-2 : tie.Need-returns-2 Inv-loop μ-loop
 returns-2 c = let a = c .before .before .before .args in kept-past (a .buffer .now) (a .from) (a .to) (c .if2 .taken)
 
-least-requires : tie.Need-least-requires Inv-loop μ-loop
-least-requires c κs = search needs
-
-sub-least : tie.Need-sub-least Inv-loop μ-loop
-sub-least c = search needs
-
-least-requires-2 : tie.Need-least-requires-2 Inv-loop μ-loop
-least-requires-2 c κs = search needs
-
 loop-holds : tie.Need-loop-holds Inv-loop μ-loop
 unfolding keptMax
 loop-holds c = let a = c .before .before .before .before .before .args in
-    let n : c .least2 .result ≡ min (min keptMax (a .to - a .from)) (length (a .buffer .now) - a .from) =
-      rw (c .before .least .ensures) at (c .least2 .ensures) in
+    let n : c .in-use2 .result ≡ min (min keptMax (a .to - a .from)) (length (a .buffer .now) - a .from) =
+      rw (c .before .in-use .ensures) at (c .in-use2 .ensures) in
     (omega arith, omega (arith, n, c .before .before .if2 .left), n, refl, refl)
-
-add-buffer : tie.Need-add-buffer Inv-loop μ-loop
-add-buffer c = search needs
-
-slice-read-buffer : tie.Need-slice-read-buffer Inv-loop μ-loop
-slice-read-buffer c = search needs
-
-slice-write-buffer : tie.Need-slice-write-buffer Inv-loop μ-loop
-slice-write-buffer c = search needs
-
-add-i : tie.Need-add-i Inv-loop μ-loop
-add-i c = search needs
 
 loop-less : tie.Need-loop-less Inv-loop μ-loop
 loop-less c = let h = c .before .loop-test .taken in omega arith
@@ -66,12 +45,9 @@ loop-again c = let l = c .before .before .loop in let a = c .before .before .bef
     (omega arith, l .inv .1, l .inv .2, length-set (l .buffer) (l .i) x ∙ l .inv .3,
      kept-next (a .buffer .now) (a .from) (a .to) (l .i) (l .buffer) (omega (arith, h, l .inv .1)) (l .inv .4))
 
-same-length : tie.Need-same-length Inv-loop μ-loop
-same-length c = search needs
-
 returns-3 : tie.Need-returns-3 Inv-loop μ-loop
 returns-3 c = let l = c .before .loop in let a = c .before .before .before .before .before .before .before .args in
-    let n = c .before .before .least2 .result in let e : l .i ≡ n = omega (arith, c .loop-test .left, l .inv .0) in
+    let n = c .before .before .in-use2 .result in let e : l .i ≡ n = omega (arith, c .loop-test .left, l .inv .0) in
     let k = kept-count (a .buffer .now) (a .from) (a .to) n (l .inv .2) in
     let m = length-take-le n (drop (a .from) (a .buffer .now))
         (omega (arith, l .inv .1, length-drop (a .from) (a .buffer .now))) in
@@ -85,15 +61,15 @@ keep-rest-spec =
     μ-loop
     returns
     returns-2
-    least-requires
-    sub-least
-    least-requires-2
+    (λ c κs. search needs)
+    (λ c. search needs)
+    (λ c κs. search needs)
     loop-holds
-    add-buffer
-    slice-read-buffer
-    slice-write-buffer
-    add-i
+    (λ c. search needs)
+    (λ c. search needs)
+    (λ c. search needs)
+    (λ c. search needs)
     loop-less
     loop-again
-    same-length
+    (λ c. search needs)
     returns-3)

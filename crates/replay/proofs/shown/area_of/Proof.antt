@@ -15,14 +15,11 @@ returns c = let s = c .before in let n = partitions-8 (s .args .t1) _ (s .good .
     sym (ap (λ (q : Partition). q .area) (List·getD-eq-default (s .args .t1 .at) noPartition
         (omega (arith, c .if1 .taken))))
 
-mul-result : tie.Need-mul-result
-mul-result c = search needs
-
-element-copy-out-result : tie.Need-element-copy-out-result
-element-copy-out-result c = search needs
-
-returns-2 : tie.Need-returns-2
-returns-2 c = search needs
-
 pub area-of-spec : {M : Type 1} → statement M
-area-of-spec = tie.close (tie.spec returns mul-result element-copy-out-result returns-2)
+area-of-spec =
+    tie.close
+    (tie.spec
+    returns
+    (λ c. search needs)
+    (λ c. search needs)
+    (λ c. search needs))

@@ -22,15 +22,6 @@ loop-holds : tie.Need-loop-holds Inv-loop μ-loop
 loop-holds c = let a = c .before .before .before .args in
     (search needs, search needs, refl, rest-start (a .bitmap .now) (a .words .now) (a .out .now))
 
-is-one-requires : tie.Need-is-one-requires Inv-loop μ-loop
-is-one-requires c κs = search needs
-
-add-i : tie.Need-add-i Inv-loop μ-loop
-add-i c = search needs
-
-loop-less : tie.Need-loop-less Inv-loop μ-loop
-loop-less c = search needs
-
 loop-again : tie.Need-loop-again Inv-loop μ-loop
 loop-again c = let k = c .before .before in let l = k .before .loop in
     let a = k .before .before .before .before .before .args in
@@ -38,34 +29,10 @@ loop-again c = let k = c .before .before in let l = k .before .loop in
      rest-hidden (a .bitmap .now) (a .words .now) (a .out .now) (l .out) (l .k) (l .i) (k .loop-test .taken)
        (sym (c .before .is-one .ensures) ∙ not-true (c .before .is-one .result) (c .if1 .taken)) (l .inv .3))
 
-same-length : tie.Need-same-length Inv-loop μ-loop
-same-length c = search needs
-
 returns : tie.Need-returns Inv-loop μ-loop
 returns c = let l = c .before .before .before .before .loop in
     let a = c .before .before .before .before .before .before .before .before .args in
     rest-full (a .bitmap .now) (a .words .now) (a .out .now) (l .out) (l .k) (l .i) (c .if2 .taken) (l .inv .3)
-
-mul-out : tie.Need-mul-out Inv-loop μ-loop
-mul-out c = search needs
-
-shared-slice-read-out : tie.Need-shared-slice-read-out Inv-loop μ-loop
-shared-slice-read-out c = search needs
-
-mul-out-2 : tie.Need-mul-out-2 Inv-loop μ-loop
-mul-out-2 c = search needs
-
-slice-write-out : tie.Need-slice-write-out Inv-loop μ-loop
-slice-write-out c = search needs
-
-add-k : tie.Need-add-k Inv-loop μ-loop
-add-k c = search needs
-
-add-i-2 : tie.Need-add-i-2 Inv-loop μ-loop
-add-i-2 c = search needs
-
-loop-less-2 : tie.Need-loop-less-2 Inv-loop μ-loop
-loop-less-2 c = search needs
 
 loop-again-2 : tie.Need-loop-again-2 Inv-loop μ-loop
 loop-again-2 c = let e = c .before .before in let l = c .before .before .before .before .before .loop in
@@ -78,9 +45,6 @@ loop-again-2 c = let e = c .before .before in let l = c .before .before .before 
        (sym (e .before .is-one .ensures) ∙ not-false (e .before .is-one .result) (e .if1 .left))
          (c .before .if2 .left) (l .inv .3))
 
-same-length-2 : tie.Need-same-length-2 Inv-loop μ-loop
-same-length-2 c = search needs
-
 returns-2 : tie.Need-returns-2 Inv-loop μ-loop
 returns-2 c = let l = c .before .loop in let a = c .before .before .before .before .before .args in
     rest-none (a .bitmap .now) (a .words .now) (a .out .now) (l .out) (l .k) (l .i) (c .loop-test .left) (l .inv .3)
@@ -92,19 +56,19 @@ pick-spec =
     Inv-loop
     μ-loop
     loop-holds
-    is-one-requires
-    add-i
-    loop-less
+    (λ c κs. search needs)
+    (λ c. search needs)
+    (λ c. search needs)
     loop-again
-    same-length
+    (λ c. search needs)
     returns
-    mul-out
-    shared-slice-read-out
-    mul-out-2
-    slice-write-out
-    add-k
-    add-i-2
-    loop-less-2
+    (λ c. search needs)
+    (λ c. search needs)
+    (λ c. search needs)
+    (λ c. search needs)
+    (λ c. search needs)
+    (λ c. search needs)
+    (λ c. search needs)
     loop-again-2
-    same-length-2
+    (λ c. search needs)
     returns-2)

@@ -1,70 +1,65 @@
--- `replay::shown::print_answer` meets its contract.
+-- `replay::shown::print_answer` meets its contract, by whether the command is a scan.
 -- Assumes nothing.
-use mathlib.Core.Path.{_≡_, sym, _∙_, ap}
-use mathlib.Core.List.{List}
-use Prim.Native.Nat.{ℕ, _≤_}
-use lib.ListN.{length, take}
+use mathlib.Core.Path.{refl, sym}
+use Prim.Native.Nat.{_≤_}
+use native.Mathlib.Omega.{arith}
+use lib.ListN.{length, getD, length-append}
 use lib.Seq.{length-take-le}
 use borrow.Author.Needs.{needs}
-use Rattle.session_text.specs.Lines.{sizeIn, writtenIn}
-use Rattle.session_text.specs.Print.{printed}
-use Rattle.replay.specs.Shown.{fitting, shownIn}
-use Rattle.replay.proofs.Laws.Shown.{front-end, front-shown}
+use Rattle.replay.specs.Shown.{shownWords}
+use Rattle.replay.proofs.Laws.Shown.{front-end, scan-printed, other-printed}
 use Rattle.replay.proofs.shown.print_answer.Statement.{statement}
 use Rattle.replay.proofs.shown.print_answer.Tie as tie
 
-abbrev H : tie.After-slice-known3 → tie.After-show
-H c = c .before .before
+abbrev S : tie.After-values → tie.Start
+S v = v .before .before .before .before .before .before .before
 
-abbrev A : tie.After-slice-known3 → tie.Start
-A c = c .before .before .before .before .before .before .before .before
+abbrev W : tie.After-shown-rows → tie.After-values
+W k = k .before .before .before .before .before .before
 
-abbrev rows : tie.After-slice-known3 → List ℕ
-rows c = let a = A c .args in shownIn (a .command) (a .answer) (a .partitions) (a .bitmap .now) (a .rows .now)
+ends : (k : tie.After-shown-rows) → k .shown-rows .result ≤ length (k .shown-rows .last .1 .1 .1 .1 .0)
+ends k = let a = S (W k) .args in
+    front-end (shownWords (a .bitmap .now) (k .before .before .area-of .result)
+      (getD (W k .before .reply-of .result .values) 0 0) (a .rows .now)) (a .numbers .now) _ _
+    (k .shown-rows .ensures .0) (k .shown-rows .ensures .1)
 
-ends : (c : tie.After-slice-known3) → H c .show .result ≤ length (H c .show .last .1 .1 .1 .1 .1 .0)
-ends c = front-end (rows c) (A c .args .numbers .now) (H c .show .last .1 .1 .1 .1 .1 .0) (H c .show .result)
-    (H c .show .ensures .0) (H c .show .ensures .1)
-
-fronts : (c : tie.After-slice-known3) → take (H c .show .result) (H c .show .last .1 .1 .1 .1 .1 .0)
-    ≡ fitting (rows c) (A c .args .numbers .now)
-fronts c = front-shown (rows c) (A c .args .numbers .now) (H c .show .last .1 .1 .1 .1 .1 .0) (H c .show .result)
-    (H c .show .ensures .0) (H c .show .ensures .1)
-
-show-requires : tie.Need-show-requires
-show-requires c κs = search needs
-
-slice-reshare-prefix-print : tie.Need-slice-reshare-prefix-print
-slice-reshare-prefix-print c = ends c
-
-slice-aggregate-print : tie.Need-slice-aggregate-print
-slice-aggregate-print c = let h = H (c .before) .show in sym
-    (length-take-le (h .result) (h .last .1 .1 .1 .1 .1 .0) (ends (c .before)))
-
-print-requires : tie.Need-print-requires
-print-requires c κs = search needs
-
-same-length : tie.Need-same-length
-same-length c = search needs
-
-same-length-2 : tie.Need-same-length-2
-same-length-2 c = search needs
+few : (v : tie.After-values) → v .before .reply-of .result .count ≤ length (v .before .reply-of .result .values)
+few v = rw (v .before .reply-of .ensures) (simp length-append (omega arith))
 
 returns : tie.Need-returns
-returns c = let p = c .before .before .print in let k = c .before .before .before .before .before in
-    let a = A k .args in
-    (p .ensures .0 ∙ ap (λ (ws : List ℕ). sizeIn (printed (a .command) (a .answer) ws) (a .out .now)) (fronts k),
-     (p .ensures .1 ∙ ap (λ (ws : List ℕ). writtenIn (printed (a .command) (a .answer) ws) (a .out .now)) (fronts k),
-      H k .show .ensures .1))
+returns c = let k = c .before .before .before .before .before .before .before in let v = W k in let a = S v .args in
+    let z = k .before .before .before .before .command .given in let w = c .before .before .print-line in
+    let h = k .shown-rows in
+    scan-printed (a .command) (a .answer) (a .partitions) (a .bitmap .now) (a .rows .now) (a .numbers .now)
+    (a .out .now) _ (v .before .reply-of .result) (v .before .before .letter-of .ensures) (v .before .reply-of .ensures)
+    _ _ _ (w .ensures .0) (w .ensures .1) (z .0 .0) (z .0 .1 .0) _ _ _ (z .1) (k .before .before .area-of .ensures) refl
+    (h .ensures .0) (h .ensures .1)
+
+returns-2 : tie.Need-returns-2
+returns-2 c = let m = c .before .before .before .before .before in let v = m .before in let a = S v .args in
+    let w = c .before .before .print-line2 in
+    other-printed (a .command) (a .answer) (a .partitions) (a .bitmap .now) (a .rows .now) (a .numbers .now)
+    (a .out .now) _ (v .before .reply-of .result) (v .before .before .letter-of .ensures) (v .before .reply-of .ensures)
+    _ _ _ (w .ensures .0) (w .ensures .1) (m .match .keys2) refl
 
 pub print-answer-spec : {M : Type 1} → statement M
 print-answer-spec =
     tie.close
     (tie.spec
-    show-requires
-    slice-reshare-prefix-print
-    slice-aggregate-print
-    print-requires
-    same-length
-    same-length-2
-    returns)
+    (λ c κs. search needs)
+    (λ c κs. search needs)
+    (λ c. search needs)
+    (λ c κs. search needs)
+    (λ c. search needs)
+    (λ c κs. search needs)
+    (λ c. ends (c .before .before))
+    (λ c. sym (length-take-le _ _ (ends (c .before .before .before))))
+    (λ c κs. search needs)
+    (λ c. few (c .before))
+    (λ c. sym (length-take-le _ _ (few (c .before .before))))
+    (λ c κs. search needs)
+    (λ c. search needs)
+    (λ c. search needs)
+    returns
+    (λ c. search needs)
+    returns-2)

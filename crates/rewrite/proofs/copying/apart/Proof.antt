@@ -16,15 +16,9 @@ returns-3 : tie.Need-returns-3
 returns-3 c = let a = c .before .before .before .args in sym (apart-to (a .from) (a .to) (a .n)
     (c .if3 .taken))
 
-add-if4 : tie.Need-add-if4
-add-if4 c = search needs
-
 returns-4 : tie.Need-returns-4
 returns-4 c = let t = c .before in let f = t .before in let l = f .before in let a = l .before .args in
     sym (apart-before (a .from) (a .to) (a .n) (l .if1 .left) (f .if2 .left) (t .if3 .left) (c .if4 .taken))
-
-add-result : tie.Need-add-result
-add-result c = search needs
 
 returns-5 : tie.Need-returns-5
 returns-5 c = let t = c .before in let f = t .before in let l = f .before in let a = l .before .args in
@@ -32,4 +26,12 @@ returns-5 c = let t = c .before in let f = t .before in let l = f .before in let
 
 pub apart-spec : {M : Type 1} → statement M
 apart-spec =
-    tie.close (tie.spec returns returns-2 returns-3 add-if4 returns-4 add-result returns-5)
+    tie.close
+    (tie.spec
+    returns
+    returns-2
+    returns-3
+    (λ c. search needs)
+    returns-4
+    (λ c. search needs)
+    returns-5)

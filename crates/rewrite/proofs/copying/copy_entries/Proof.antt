@@ -3,17 +3,16 @@
 -- Assumes nothing.
 use mathlib.Core.Path.{_≡_, refl, _∙_}
 use mathlib.Core.List.{List, _∷_}
-use Prim.Native.Nat.{ℕ, suc, _-_, _≤_}
-use native.Mathlib.Numerals.{add-one}
+use Prim.Native.Nat.{ℕ, _+_, _-_, _≤_}
 use native.Mathlib.Omega.{arith}
-use lib.ListN.{length, take, drop, getD, drop-of-length-le, length-take}
-use lib.Seq.{drop-cons}
+use lib.ListN.{length, take, drop, getD}
 use Rattle.rules.specs.Limits.{entriesMax}
 use Rattle.rules.specs.declared.Entry.{Entry}
-use Rattle.visible.specs.Bare.{noEntry}
-use Rattle.visible.proofs.Laws.Places.{unmapped, drop-used}
-use Rattle.rewrite.proofs.Laws.Copied.{AreasApart, areas-apart, Copied, copied-none, begins}
-use Rattle.rewrite.proofs.Laws.Copied.{RunOk, run-ok, copied-next, copied-all}
+use Rattle.lent.specs.Entries.{none}
+use Rattle.lists.proofs.Laws.Places.{unmapped, used-next, used-end, from-next}
+use Rattle.area.proofs.Laws.Area.{area-length}
+use Rattle.rewrite.proofs.Laws.Copied.{AreasApart, areas-apart, runOf, Copied, Turn, copied-none, copied-turn}
+use Rattle.rewrite.proofs.Laws.Copied.{copied-all}
 use borrow.Author.Needs.{needs}
 use Rattle.rewrite.proofs.copying.copy_entries.Statement.{statement}
 use Rattle.rewrite.proofs.copying.copy_entries.Tie as tie
@@ -39,56 +38,42 @@ abbrev es : tie.In-loop Inv-loop μ-loop → List Entry
 es k = take (S k .args .n) (S k .args .t2 .at)
 
 abbrev e : tie.In-loop Inv-loop μ-loop → Entry
-e k = getD (S k .args .t2 .at) (k .before .loop .k) noEntry
+e k = getD (S k .args .t2 .at) (k .before .loop .k) none
 
 abbrev q : tie.In-loop Inv-loop μ-loop → ℕ
 q k = getD (S k .args .t4 .at) (k .before .loop .k) 0
 
 here : (k : tie.In-loop Inv-loop μ-loop) → drop (k .before .loop .k) (es k) ≡ e k ∷ drop
-    (suc (k .before .loop .k)) (es k)
-here k = drop-used (S k .args .t2 .at) (S k .args .n) (k .before .loop .k) noEntry
-    (omega (arith, S k .pre .0)) (k .loop-test .taken)
+    (k .before .loop .k + 1) (es k)
+here k = used-next (S k .args .t2 .at) (S k .args .n) entriesMax (k .before .loop .inv .1) none (k .before .loop .k)
+    (omega (arith, S k .pre .0))
 
 plan-here : (k : tie.In-loop Inv-loop μ-loop) → let ps = S k .args .t4 .at in
-    drop (k .before .loop .k) ps ≡ q k ∷ drop (suc (k .before .loop .k)) ps
-plan-here k = drop-cons (S k .args .t4 .at) (k .before .loop .k) 0 (omega (arith, S k .pre .0))
+    drop (k .before .loop .k) ps ≡ q k ∷ drop (k .before .loop .k + 1) ps
+plan-here k = from-next (S k .args .t4 .at) 0 (k .before .loop .k) (omega (arith, S k .pre .0))
 
-from-here : (k : tie.In-loop Inv-loop μ-loop) → k .before .loop .start ≤ e k .end
-from-here k = let a = S k .args in let l = k .before .loop in
-    begins (a .t4 .at) (es k) (a .from) (a .to) (a .rows .now) (areas (S k)) (l .k) (l .start) (l .done)
-        (l .rows) (l .inv .4)
-      (q k) (e k) (plan-here k) (here k)
+turn : (k : tie.In-loop Inv-loop μ-loop) (n : ℕ) → n ≡ runOf (q k) (k .before .loop .start) (e k)
+    → let a = S k .args in let l = k .before .loop in
+      Turn (a .t4 .at) (es k) (a .from) (a .to) (a .rows .now) (l .k) (l .start) (l .done) (l .rows) (e k) n
+turn k = let a = S k .args in let l = k .before .loop in
+    copied-turn (a .t4 .at) (es k) (a .from) (a .to) (a .rows .now) (areas (S k)) (l .k) (l .start) (l .done) (l .rows)
+      (l .inv .4) (q k) (e k) (plan-here k) (here k)
 
-run : (c : tie.After-run-of Inv-loop μ-loop) → let k = c .before .before .before in let a = S k .args in let l
-    = k .before .loop in
-    RunOk (a .t4 .at) (es k) (a .from) (a .to) (a .rows .now) (areas (S k)) (l .k) (l .start) (l .done)
-        (l .rows) (l .inv .4)
-      (q k) (e k) (plan-here k) (here k) (c .run-of .result)
-run c = let k = c .before .before .before in let a = S k .args in let l = k .before .loop in
-    rw (c .run-of .ensures) (run-ok (a .t4 .at) (es k) (a .from) (a .to) (a .rows .now) (areas (S k)) (l .k)
-        (l .start) (l .done) (l .rows) (l .inv .4)
-      (q k) (e k) (plan-here k) (here k))
+-- the turn, once its rows are counted
+run : (c : tie.After-run-of Inv-loop μ-loop) → let k = c .before .before .before in
+    let a = S k .args in let l = k .before .loop in
+    Turn (a .t4 .at) (es k) (a .from) (a .to) (a .rows .now) (l .k) (l .start) (l .done) (l .rows) (e k)
+      (c .run-of .result)
+run c = turn (c .before .before .before) (c .run-of .result) (c .run-of .ensures)
 
 loop-holds : tie.Need-loop-holds Inv-loop μ-loop
 loop-holds c = let s = c .before in let a = s .args in
-    (search needs, unmapped _ (a .t2 .at) 64 (s .good .1 .0 .1 .1 .0 .1 .0 .1), unmapped _ (a .t4 .at) 64
+    (search needs, area-length (a .t2) _ (s .good .1 .0), unmapped _ (a .t4 .at) entriesMax
         (s .good .1 .1 .1 .0 .1 .1 .0 .1 .0 .1), refl,
     copied-none (a .t4 .at) (take (a .n) (a .t2 .at)) (a .from) (a .to) (a .rows .now) (areas s) (s .pre .1))
 
-mul-e : tie.Need-mul-e Inv-loop μ-loop
-mul-e c = search needs
-
-element-copy-out-e : tie.Need-element-copy-out-e Inv-loop μ-loop
-element-copy-out-e c = search needs
-
-mul-q : tie.Need-mul-q Inv-loop μ-loop
-mul-q c = search needs
-
-element-copy-out-q : tie.Need-element-copy-out-q Inv-loop μ-loop
-element-copy-out-q c = search needs
-
 run-of-requires : tie.Need-run-of-requires Inv-loop μ-loop
-run-of-requires c κs = from-here (c .before .before)
+run-of-requires c κs = turn (c .before .before) _ refl .begins
 
 add-copy-run : tie.Need-add-copy-run Inv-loop μ-loop
 add-copy-run c = let r = run (c .before) .src-in in search needs
@@ -104,30 +89,16 @@ copy-run-requires c κs = let r = run (c .before) in let k = c .before .before .
 add-done : tie.Need-add-done Inv-loop μ-loop
 add-done c = let r = run (c .before .before .before .before) .done-in in search needs
 
-add-k : tie.Need-add-k Inv-loop μ-loop
-add-k c = search needs
-
-loop-less : tie.Need-loop-less Inv-loop μ-loop
-loop-less c = search needs
-
 loop-again : tie.Need-loop-again Inv-loop μ-loop
-loop-again c = let m = c .before .before .before .before in let k = m .before .before .before in let a = S k
-    .args in let l = k .before .loop in
+loop-again c = let m = c .before .before .before .before in let l = m .before .before .before .before .loop in
     let r = c .before .before .copy-run in
-    (search needs, l .inv .1, l .inv .2, r .kept .0 ∙ l .inv .3, rw (add-one, m .run-of .ensures)
-      (copied-next (a .t4 .at) (es k) (a .from) (a .to) (a .rows .now) (areas (S k)) (l .k) (l .start)
-          (l .done) (l .rows) (l .inv .4)
-        (q k) (e k) (plan-here k) (here k) (r .last .0) (rw (m .run-of .ensures) at (r .ensures))))
-
-same-length : tie.Need-same-length Inv-loop μ-loop
-same-length c = search needs
+    (search needs, l .inv .1, l .inv .2, r .kept .0 ∙ l .inv .3, run m .next (r .last .0) (r .ensures))
 
 returns : tie.Need-returns Inv-loop μ-loop
-returns c = let l = c .before .loop in let s = c .before .before .before in let a = s .args in let xs = take
-    (a .n) (a .t2 .at) in
-    copied-all (a .t4 .at) xs (a .from) (a .to) (a .rows .now) (areas s) (l .k) (l .start) (l .done) (l .rows)
-        (l .inv .4)
-      (drop-of-length-le xs {i = l .k} (omega (arith, length-take (a .n) (a .t2 .at))))
+returns c = let l = c .before .loop in let s = c .before .before .before in let a = s .args in
+    copied-all (a .t4 .at) (take (a .n) (a .t2 .at)) (a .from) (a .to) (a .rows .now) (areas s) (l .k) (l .start)
+      (l .done) (l .rows) (l .inv .4)
+      (used-end (a .t2 .at) (a .n) entriesMax (l .inv .1) (l .k) (omega arith))
 
 pub copy-entries-spec : {M : Type 1} → statement M
 copy-entries-spec =
@@ -136,17 +107,17 @@ copy-entries-spec =
     Inv-loop
     μ-loop
     loop-holds
-    mul-e
-    element-copy-out-e
-    mul-q
-    element-copy-out-q
+    (λ c. search needs)
+    (λ c. search needs)
+    (λ c. search needs)
+    (λ c. search needs)
     run-of-requires
     add-copy-run
     add-copy-run-2
     copy-run-requires
     add-done
-    add-k
-    loop-less
+    (λ c. search needs)
+    (λ c. search needs)
     loop-again
-    same-length
+    (λ c. search needs)
     returns)

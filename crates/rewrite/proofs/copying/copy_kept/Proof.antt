@@ -1,35 +1,26 @@
 -- `rewrite::copying::copy_kept` meets its contract, by its tests.
 -- Assumes nothing.
-use mathlib.Core.Path.{sym, _∙_}
+use mathlib.Core.Path.{_≡_, sym, _∙_}
+use lib.ListN.{take}
 use borrow.Author.Tests.{not-true, not-false}
-use Rattle.lists.proofs.Laws.Bools.{and-false}
-use Rattle.visible.specs.Bare.{entriesIn}
+use mathlib.Core.Bool.{and-false}
+use Rattle.area.specs.Area.{entriesIn}
 use Rattle.rewrite.specs.Kept.{endsFit}
 use Rattle.rewrite.specs.Copied.{copyOk, rowsCopied}
-use Rattle.visible.proofs.Laws.Places.{unmapped}
-use Rattle.rewrite_plan.proofs.Laws.Area.{Uses, uses}
+use Rattle.area.proofs.Laws.Area.{area-length, entries-used}
 use borrow.Author.Needs.{needs}
 use Rattle.rewrite.proofs.copying.copy_kept.Statement.{statement}
 use Rattle.rewrite.proofs.copying.copy_kept.Tie as tie
 
 -- the entries in use are the first n
-used : (c : tie.After-in-use) → Uses (c .before .before .args .a) (c .in-use .result)
-used c = let s = c .before .before in let a = s .args .a in
-    uses a (c .in-use .result) (unmapped _ (a .at) 64 (s .good .1 .0 .1 .1 .0 .1 .0 .1)) (c .in-use .ensures)
-
-in-use-requires : tie.Need-in-use-requires
-in-use-requires c κs = search needs
-
-ends-fit-requires : tie.Need-ends-fit-requires
-ends-fit-requires c κs = used c .few
+used : (c : tie.After-in-use) → let a = c .before .before .args .a in take (c .in-use .result) (a .at) ≡ entriesIn a
+used c = let s = c .before .before in
+    entries-used (s .args .a) (c .in-use .result) (area-length (s .args .a) _ (s .good .1 .0)) (c .in-use .ensures)
 
 returns : tie.Need-returns
 unfolding rowsCopied copyOk
 returns c = let r = c .before .ends-fit in let u = used (c .before .before) in
-    rw (← u .first, sym (r .ensures) ∙ not-true (r .result) (c .if1 .taken))
-
-apart-requires : tie.Need-apart-requires
-apart-requires c κs = search needs
+    rw (← u, sym (r .ensures) ∙ not-true (r .result) (c .if1 .taken))
 
 returns-2 : tie.Need-returns-2
 unfolding rowsCopied copyOk
@@ -39,11 +30,9 @@ returns-2 c = let a = c .before .before .before .before .before .before .args in
 copy-entries-requires : tie.Need-copy-entries-requires
 copy-entries-requires c κs = let t = c .before in let b = t .before .before in let e = b .before .ends-fit in
     let r = t .before .apart in
-    (used (b .before .before) .few, sym (e .ensures) ∙ not-false (e .result) (b .if1 .left),
+    (let n = b .before .before .in-use .ensures in search needs,
+    sym (e .ensures) ∙ not-false (e .result) (b .if1 .left),
     sym (r .ensures) ∙ not-false (r .result) (t .if2 .left))
-
-same-length : tie.Need-same-length
-same-length c = search needs
 
 returns-3 : tie.Need-returns-3
 unfolding rowsCopied copyOk
@@ -51,18 +40,18 @@ returns-3 c = let t = c .before .before .before .before in let b = t .before .be
     .ends-fit in
     let r = t .before .apart in let u = used (b .before .before) in
     c .before .before .copy-entries .ensures
-    ∙ rw (← u .first, sym (e .ensures) ∙ not-false (e .result) (b .if1 .left), sym (r .ensures) ∙ not-false
+    ∙ rw (← u, sym (e .ensures) ∙ not-false (e .result) (b .if1 .left), sym (r .ensures) ∙ not-false
         (r .result) (t .if2 .left))
 
 pub copy-kept-spec : {M : Type 1} → statement M
 copy-kept-spec =
     tie.close
     (tie.spec
-    in-use-requires
-    ends-fit-requires
+    (λ c κs. search needs)
+    (λ c κs. search needs)
     returns
-    apart-requires
+    (λ c κs. search needs)
     returns-2
     copy-entries-requires
-    same-length
+    (λ c. search needs)
     returns-3)

@@ -8,11 +8,9 @@ use Rattle.rewrite.proofs.copying.run_of.Tie as tie
 returns : tie.Need-returns
 returns c = simp (eq-eqb _ _ (c .if1 .taken))
 
-sub-result : tie.Need-sub-result
-sub-result c = search needs
-
 returns-2 : tie.Need-returns-2
 returns-2 c = simp (ne-eqb _ _ (c .if1 .left))
 
 pub run-of-spec : {M : Type 1} → statement M
-run-of-spec = tie.close (tie.spec returns sub-result returns-2)
+run-of-spec =
+    tie.close (tie.spec returns (λ c. search needs) returns-2)

@@ -2,16 +2,15 @@
 -- from k on do, after the end before them. The measure is what is left of n.
 -- Assumes nothing.
 use mathlib.Core.Path.{_≡_, refl, sym, _∙_}
-use mathlib.Core.List.{_∷_}
-use Prim.Native.Nat.{suc, _-_, _≤_}
-use native.Mathlib.Numerals.{add-one}
+use Prim.Native.Nat.{_-_, _≤_}
 use native.Mathlib.Omega.{arith}
-use lib.ListN.{length, take, drop, getD, drop-of-length-le, length-take}
+use lib.ListN.{length, take, drop}
 use Rattle.rules.specs.Limits.{entriesMax}
-use Rattle.visible.specs.Bare.{noEntry}
+use Rattle.lent.specs.Entries.{none}
 use Rattle.rewrite.specs.Kept.{endsFit}
-use Rattle.visible.proofs.Laws.Places.{unmapped, drop-used}
-use Rattle.rewrite.proofs.Laws.Ends.{ends-fall, ends-next}
+use Rattle.lists.proofs.Laws.Places.{used-next, used-end}
+use Rattle.area.proofs.Laws.Area.{area-length}
+use borrow.Author.Tests.{le-leb, lt-leb}
 use borrow.Author.Needs.{needs}
 use Rattle.rewrite.proofs.ends.ends_fit.Statement.{statement}
 use Rattle.rewrite.proofs.ends.ends_fit.Tie as tie
@@ -23,44 +22,25 @@ Inv-loop n a from₀ k₀ from k = (k ≤ n) × (length (a .at) ≡ entriesMax)
 abbrev μ-loop : tie.MeasureT-loop
 μ-loop n a from₀ k₀ from k = n - k
 
--- the entry at k, and those after it
-here : (k : tie.In-loop Inv-loop μ-loop) → let a = k .before .before .args in let l = k .before .loop in
-    endsFit 0 (take (a .n) (a .t1 .at))
-    ≡ endsFit (l .from) (getD (a .t1 .at) (l .k) noEntry ∷ drop (suc (l .k)) (take (a .n) (a .t1 .at)))
-here k = let a = k .before .before .args in let l = k .before .loop in
-    l .inv .2 ∙ rw (drop-used (a .t1 .at) (a .n) (l .k) noEntry (omega arith) (k .loop-test .taken))
-
 loop-holds : tie.Need-loop-holds Inv-loop μ-loop
-loop-holds c = (search needs, unmapped _ (c .args .t1 .at) 64 (c .good .0 .1 .1 .0 .1 .0 .1), refl)
-
-mul-e : tie.Need-mul-e Inv-loop μ-loop
-mul-e c = search needs
-
-element-copy-out-e : tie.Need-element-copy-out-e Inv-loop μ-loop
-element-copy-out-e c = search needs
+loop-holds c = (search needs, area-length (c .args .t1) _ (c .good .0), refl)
 
 returns : tie.Need-returns Inv-loop μ-loop
+unfolding endsFit
 returns c = let k = c .before .before .before in let a = k .before .before .args in let l = k .before .loop in
-    sym (here k ∙ ends-fall (l .from) (getD (a .t1 .at) (l .k) noEntry)
-        (drop (suc (l .k)) (take (a .n) (a .t1 .at))) (c .if1 .taken))
-
-add-k : tie.Need-add-k Inv-loop μ-loop
-add-k c = search needs
-
-loop-less : tie.Need-loop-less Inv-loop μ-loop
-loop-less c = search needs
+    sym (l .inv .2 ∙ rw (used-next (a .t1 .at) (a .n) entriesMax (l .inv .1) none (l .k) (omega arith),
+      lt-leb _ _ (c .if1 .taken)))
 
 loop-again : tie.Need-loop-again Inv-loop μ-loop
-loop-again c = let k = c .before .before .before in let a = k .before .before .args in let l = k .before .loop
-    in
-    (search needs, search needs, rw add-one (here k
-      ∙ ends-next (l .from) (getD (a .t1 .at) (l .k) noEntry) (drop (suc (l .k)) (take (a .n) (a .t1 .at)))
-          (c .if1 .left)))
+unfolding endsFit
+loop-again c = let k = c .before .before .before in let a = k .before .before .args in let l = k .before .loop in
+    (search needs, search needs, l .inv .2
+      ∙ rw (used-next (a .t1 .at) (a .n) entriesMax (l .inv .1) none (l .k) (omega arith), le-leb _ _ (c .if1 .left)))
 
 returns-2 : tie.Need-returns-2 Inv-loop μ-loop
 unfolding endsFit
-returns-2 c = let l = c .before .loop in let a = c .before .before .args in let at = a .t1 .at in
-    sym (l .inv .2 ∙ rw (drop-of-length-le (take (a .n) at) {i = l .k} (omega (arith, length-take (a .n) at))))
+returns-2 c = let l = c .before .loop in let a = c .before .before .args in
+    sym (l .inv .2 ∙ rw (used-end (a .t1 .at) (a .n) entriesMax (l .inv .1) (l .k) (omega arith)))
 
 pub ends-fit-spec : {M : Type 1} → statement M
 ends-fit-spec =
@@ -69,10 +49,10 @@ ends-fit-spec =
     Inv-loop
     μ-loop
     loop-holds
-    mul-e
-    element-copy-out-e
+    (λ c. search needs)
+    (λ c. search needs)
     returns
-    add-k
-    loop-less
+    (λ c. search needs)
+    (λ c. search needs)
     loop-again
     returns-2)

@@ -1,7 +1,7 @@
 -- `rewrite::keep::joins` meets its contract, by its tests.
 -- Assumes nothing.
 use borrow.Author.Tests.{eq-eqb, ne-eqb}
-use Rattle.lists.proofs.Laws.Bools.{and-false}
+use mathlib.Core.Bool.{and-false}
 use Rattle.rewrite.proofs.keep.joins.Statement.{statement}
 use Rattle.rewrite.proofs.keep.joins.Tie as tie
 

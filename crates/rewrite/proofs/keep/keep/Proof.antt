@@ -3,16 +3,15 @@
 -- Assumes nothing.
 use mathlib.Core.Path.{_≡_, refl}
 use mathlib.Core.List.{List, _∷_}
-use Prim.Native.Nat.{ℕ, suc, _-_, _≤_, _<_}
-use native.Mathlib.Numerals.{add-one}
+use Prim.Native.Nat.{ℕ, _+_, _-_, _≤_, _<_}
 use native.Mathlib.Omega.{arith}
-use lib.ListN.{length, take, drop, getD, drop-of-length-le, length-take}
-use lib.Seq.{drop-cons}
+use lib.ListN.{length, take, drop, getD}
 use Rattle.rules.specs.Limits.{entriesMax}
 use Rattle.rules.specs.declared.Entry.{Entry}
-use Rattle.visible.specs.Bare.{noEntry}
-use Rattle.visible.proofs.Laws.Places.{unmapped, drop-used}
-use Rattle.rewrite.proofs.Laws.Kept.{Kept, Room, kept-none, room, place-next, kept-next, kept-all}
+use Rattle.lent.specs.Entries.{none}
+use Rattle.lists.proofs.Laws.Places.{unmapped, used-next, used-end, from-next}
+use Rattle.area.proofs.Laws.Area.{area-length}
+use Rattle.rewrite.proofs.Laws.Kept.{Kept, Turn, kept-none, kept-turn, kept-all}
 use borrow.Author.Needs.{needs}
 use Rattle.rewrite.proofs.keep.keep.Statement.{statement}
 use Rattle.rewrite.proofs.keep.keep.Tie as tie
@@ -33,56 +32,37 @@ abbrev es : tie.In-loop Inv-loop μ-loop → List Entry
 es k = take (S k .args .n) (S k .args .t1 .at)
 
 abbrev e : tie.In-loop Inv-loop μ-loop → Entry
-e k = getD (S k .args .t1 .at) (k .before .loop .k) noEntry
+e k = getD (S k .args .t1 .at) (k .before .loop .k) none
 
 abbrev p : tie.In-loop Inv-loop μ-loop → ℕ
 p k = getD (S k .args .t3 .at) (k .before .loop .k) 0
 
 here : (k : tie.In-loop Inv-loop μ-loop) → drop (k .before .loop .k) (es k) ≡ e k ∷ drop
-    (suc (k .before .loop .k)) (es k)
-here k = drop-used (S k .args .t1 .at) (S k .args .n) (k .before .loop .k) noEntry (omega arith)
-    (k .loop-test .taken)
+    (k .before .loop .k + 1) (es k)
+here k = used-next (S k .args .t1 .at) (S k .args .n) entriesMax (k .before .loop .inv .1) none (k .before .loop .k)
+    (omega arith)
 
 plan-here : (k : tie.In-loop Inv-loop μ-loop) → let ps = S k .args .t3 .at in
-    drop (k .before .loop .k) ps ≡ p k ∷ drop (suc (k .before .loop .k)) ps
-plan-here k = drop-cons (S k .args .t3 .at) (k .before .loop .k) 0 (omega arith)
+    drop (k .before .loop .k) ps ≡ p k ∷ drop (k .before .loop .k + 1) ps
+plan-here k = from-next (S k .args .t3 .at) 0 (k .before .loop .k) (omega arith)
 
-few : (k : tie.In-loop Inv-loop μ-loop) → k .before .loop .k < entriesMax
-few k = omega arith
-
-fits : (k : tie.In-loop Inv-loop μ-loop) → let l = k .before .loop in
-    Room (S k .args .t3 .at) (es k) (l .k) (l .from) (l .last) (l .out) (l .inv .3) (e k)
-fits k = let l = k .before .loop in
-    room (S k .args .t3 .at) (es k) (l .k) (l .from) (l .last) (l .out) (l .inv .3) (p k) (e k) (plan-here k)
-        (here k)
+turn : (k : tie.In-loop Inv-loop μ-loop) → let l = k .before .loop in
+    Turn (S k .args .t3 .at) (es k) (l .k) (l .from) (l .last) (l .out) (p k) (e k)
+turn k = let l = k .before .loop in
+    kept-turn (S k .args .t3 .at) (es k) (l .k) (l .from) (l .last) (l .out) (l .inv .3) (p k) (e k) (plan-here k)
+      (here k) (omega arith)
 
 place : (c : tie.After-step Inv-loop μ-loop) → c .step .result .place < entriesMax
-place c = let k = c .before .before .before in let l = k .before .loop in
-    rw (c .step .ensures) (place-next (S k .args .t3 .at) (es k) (l .k) (l .from) (l .last) (l .out)
-        (l .inv .3) (p k) (e k)
-      (plan-here k) (here k) (few k))
+place c = rw (c .step .ensures) (turn (c .before .before .before) .place)
 
 loop-holds : tie.Need-loop-holds Inv-loop μ-loop
 loop-holds c = let a = c .args in
-    (search needs, unmapped _ (a .t1 .at) 64 (c .good .0 .1 .1 .0 .1 .0 .1), unmapped _ (a .t3 .at) 64
+    (search needs, area-length (a .t1) _ (c .good .0), unmapped _ (a .t3 .at) entriesMax
         (c .good .1 .1 .0 .1 .1 .0 .1 .0 .1),
     kept-none (a .t3 .at) (take (a .n) (a .t1 .at)) _ refl (c .pre .1))
 
-mul-e : tie.Need-mul-e Inv-loop μ-loop
-mul-e c = search needs
-
-element-copy-out-e : tie.Need-element-copy-out-e Inv-loop μ-loop
-element-copy-out-e c = search needs
-
-mul-p : tie.Need-mul-p Inv-loop μ-loop
-mul-p c = search needs
-
-element-copy-out-p : tie.Need-element-copy-out-p Inv-loop μ-loop
-element-copy-out-p c = search needs
-
 step-requires : tie.Need-step-requires Inv-loop μ-loop
-step-requires c κs = let k = c .before .before in let f = few k in
-    (omega (arith, fits k .count), fits k .begins, fits k .rows)
+step-requires c κs = let t = turn (c .before .before) in (t .count, t .begins, t .rows)
 
 mul-out : tie.Need-mul-out Inv-loop μ-loop
 mul-out c = let h = place (c .before) in search needs
@@ -90,23 +70,14 @@ mul-out c = let h = place (c .before) in search needs
 array-set-from-out : tie.Need-array-set-from-out Inv-loop μ-loop
 array-set-from-out c = place (c .before)
 
-add-k : tie.Need-add-k Inv-loop μ-loop
-add-k c = search needs
-
-loop-less : tie.Need-loop-less Inv-loop μ-loop
-loop-less c = search needs
-
 loop-again : tie.Need-loop-again Inv-loop μ-loop
-loop-again c = let k = c .before .before .before .before in let l = k .before .loop in let r = c .before .step
-    in
-    (search needs, l .inv .1, l .inv .2, rw (add-one, r .ensures)
-      (kept-next (S k .args .t3 .at) (es k) (l .k) (l .from) (l .last) (l .out) (l .inv .3) (p k) (e k)
-          (plan-here k) (here k) (few k)))
+loop-again c = let k = c .before .before .before .before in let l = k .before .loop in
+    (search needs, l .inv .1, l .inv .2, rw (c .before .step .ensures) (turn k .next))
 
 returns : tie.Need-returns Inv-loop μ-loop
 returns c = let l = c .before .loop in let a = c .before .before .args in let xs = take (a .n) (a .t1 .at) in
     kept-all (a .t3 .at) xs (l .k) (l .from) (l .last) (l .out) (l .inv .3)
-      (drop-of-length-le xs {i = l .k} (omega (arith, length-take (a .n) (a .t1 .at))))
+      (used-end (a .t1 .at) (a .n) entriesMax (l .inv .1) (l .k) (omega arith))
 
 pub keep-spec : {M : Type 1} → statement M
 keep-spec =
@@ -115,14 +86,14 @@ keep-spec =
     Inv-loop
     μ-loop
     loop-holds
-    mul-e
-    element-copy-out-e
-    mul-p
-    element-copy-out-p
+    (λ c. search needs)
+    (λ c. search needs)
+    (λ c. search needs)
+    (λ c. search needs)
     step-requires
     mul-out
     array-set-from-out
-    add-k
-    loop-less
+    (λ c. search needs)
+    (λ c. search needs)
     loop-again
     returns)

@@ -8,20 +8,13 @@ use borrow.Author.Needs.{needs}
 use borrow.Author.Needs.{needs}
 use Rattle.session_text.proofs.call.parse_letter.Statement.{statement}
 use Rattle.session_text.proofs.call.parse_letter.Tie as tie
-use Rattle.session_text.proofs.call.bare.Reads as bare-reads
 
 returns : tie.Need-returns
 returns c = let s = c .before .before in no-bytes (s .args .line .now) (s .pre) (c .if1 .taken)
 
-shared-slice-read-if2 : tie.Need-shared-slice-read-if2
-shared-slice-read-if2 c = search needs
-
 returns-2 : tie.Need-returns-2
 returns-2 c = let e = c .before .before in let line = e .before .before .args .line .now in
     rw (ne-eqb (getD line 0 0) 66 (c .if2 .taken)) at (one-byte line (e .if1 .left))
-
-bare-requires : tie.Need-bare-requires
-bare-requires c κs = search needs
 
 returns-3 : tie.Need-returns-3
 returns-3 c = let e = c .before .before .before in let line = e .before .before .args .line .now in
@@ -29,4 +22,10 @@ returns-3 c = let e = c .before .before .before in let line = e .before .before 
 
 pub parse-letter-spec : {M : Type 1} → statement M
 parse-letter-spec =
-    tie.close (tie.spec returns shared-slice-read-if2 returns-2 bare-requires returns-3)
+    tie.close
+    (tie.spec
+    returns
+    (λ c. search needs)
+    returns-2
+    (λ c κs. search needs)
+    returns-3)

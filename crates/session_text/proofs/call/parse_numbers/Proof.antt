@@ -3,7 +3,6 @@
 -- Assumes nothing.
 use mathlib.Core.Path.{_≡_, refl, sym, _∙_, ap}
 use Prim.Native.Nat.{ℕ, _≤_}
-use native.Mathlib.Omega.{arith}
 use mathlib.Core.Bool.{true}
 use mathlib.Core.List.{List}
 use lib.ListN.{length, drop}
@@ -16,14 +15,6 @@ use borrow.Author.Needs.{needs}
 use borrow.Author.Needs.{needs}
 use Rattle.session_text.proofs.call.parse_numbers.Statement.{statement}
 use Rattle.session_text.proofs.call.parse_numbers.Tie as tie
-use Rattle.session_text.proofs.call.call_of.Reads as call-of-reads
-use Rattle.session_text.proofs.call.call_with.Reads as call-with-reads
-use Rattle.session_text.proofs.call.is_call.Reads as is-call-reads
-use Rattle.session_text.proofs.numbers.count_numbers.Reads as count-numbers-reads
-use Rattle.session_text.proofs.numbers.put_numbers.Reads as put-numbers-reads
-
-count-numbers-requires : tie.Need-count-numbers-requires
-count-numbers-requires c κs = search needs
 
 abbrev S : tie.After-count-numbers → tie.Start
 S k = k .before .before .before
@@ -51,12 +42,6 @@ returns-2 : tie.Need-returns-2
 returns-2 c = let e = c .before in let k = e .before in let a = S k .args in
     (short-buffer (a .letter) (a .who) (Bytes k) (a .numbers .now) (rw (counted e) at (c .if2 .taken)), refl)
 
-call-of-requires : tie.Need-call-of-requires
-call-of-requires c κs = search needs
-
-is-call-requires : tie.Need-is-call-requires
-is-call-requires c κs = search needs
-
 returns-3 : tie.Need-returns-3
 returns-3 c = let q = c .before in let e = q .before .before .before in let k = e .before in let a = S k .args in
     (other-letter (a .letter) (a .who) (Bytes k) (a .numbers .now) (k .count-numbers .result) (are e) (counted e)
@@ -68,12 +53,6 @@ room o = rw (counted (o .before)) at (o .if2 .left)
 put-numbers-requires : tie.Need-put-numbers-requires
 put-numbers-requires c κs = let o = c .before .before .before .before in let k = o .before .before in
     (S k .pre .0, are (o .before), room o)
-
-call-with-requires : tie.Need-call-with-requires
-call-with-requires c κs = search needs
-
-same-length : tie.Need-same-length
-same-length c = search needs
 
 returns-4 : tie.Need-returns-4
 returns-4 c = let w = c .before .before .before .before .put-numbers in
@@ -87,13 +66,13 @@ pub parse-numbers-spec : {M : Type 1} → statement M
 parse-numbers-spec =
     tie.close
     (tie.spec
-    count-numbers-requires
+    (λ c κs. search needs)
     returns
     returns-2
-    call-of-requires
-    is-call-requires
+    (λ c κs. search needs)
+    (λ c κs. search needs)
     returns-3
     put-numbers-requires
-    call-with-requires
-    same-length
+    (λ c κs. search needs)
+    (λ c. search needs)
     returns-4)

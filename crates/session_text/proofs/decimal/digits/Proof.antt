@@ -1,8 +1,8 @@
 -- `session_text::decimal::digits` meets its contract. The invariant: the digits counted and those of
 -- the rest, less the one counted twice, are those of n. The measure is the rest.
 -- Assumes nothing.
-use mathlib.Core.Path.{_≡_, refl, sym, _∙_, ap}
-use Prim.Native.Nat.{_+_, _-_, _≤_, _<_, _^_}
+use mathlib.Core.Path.{_≡_, ap}
+use Prim.Native.Nat.{_+_, _-_, _<_, _^_}
 use native.Mathlib.Omega.{arith}
 use lib.ListN.{length}
 use Rattle.session_text.specs.Print.{decimal}
@@ -18,15 +18,9 @@ Inv-loop n count₀ rest₀ count rest =
 abbrev μ-loop : tie.MeasureT-loop
 μ-loop n count₀ rest₀ count rest = rest
 
-loop-holds : tie.Need-loop-holds Inv-loop μ-loop
-loop-holds c = search needs
-
 add-count : tie.Need-add-count Inv-loop μ-loop
 add-count c = let a = c .before .before .args in
     omega (arith, decimal-few (a .n), decimal-some (c .before .loop .rest))
-
-loop-less : tie.Need-loop-less Inv-loop μ-loop
-loop-less c = search needs
 
 loop-again : tie.Need-loop-again Inv-loop μ-loop
 loop-again c = let l = c .before .loop in
@@ -37,4 +31,12 @@ returns c = omega (arith, ap length (decimal-small (c .before .loop .rest) (c .l
 
 pub digits-spec : {M : Type 1} → statement M
 digits-spec =
-    tie.close (tie.spec Inv-loop μ-loop loop-holds add-count loop-less loop-again returns)
+    tie.close
+    (tie.spec
+    Inv-loop
+    μ-loop
+    (λ c. search needs)
+    add-count
+    (λ c. search needs)
+    loop-again
+    returns)

@@ -1,7 +1,7 @@
 -- `session_text::decimal::put_digits` meets its contract. The invariant: what is left to write are the
 -- digits of the rest, and they end before `end`. The measure is the rest.
 -- Assumes nothing.
-use mathlib.Core.Path.{_≡_, refl, sym, _∙_, ap}
+use mathlib.Core.Path.{_≡_, sym, _∙_}
 use Prim.Native.Nat.{_+_, _-_, _/_, _≤_, _<_, _^_}
 use native.Mathlib.Omega.{arith}
 use lib.ListN.{length, length-set}
@@ -19,26 +19,11 @@ Inv-loop n out₀ at count end₀ rest₀ out end rest = (rest < 2 ^ 64) × (len
 abbrev μ-loop : tie.MeasureT-loop
 μ-loop n out₀ at count end₀ rest₀ out end rest = rest
 
-add-end : tie.Need-add-end Inv-loop μ-loop
-add-end c = search needs
-
-loop-holds : tie.Need-loop-holds Inv-loop μ-loop
-loop-holds c = search needs
-
 sub-end : tie.Need-sub-end Inv-loop μ-loop
 sub-end c = omega (arith, decimal-some (c .before .loop .rest))
 
-cast-out : tie.Need-cast-out Inv-loop μ-loop
-cast-out c = search needs
-
-add-out : tie.Need-add-out Inv-loop μ-loop
-add-out c = search needs
-
 slice-write-out : tie.Need-slice-write-out Inv-loop μ-loop
 slice-write-out c = omega (arith, decimal-some (c .before .loop .rest))
-
-loop-less : tie.Need-loop-less Inv-loop μ-loop
-loop-less c = search needs
 
 loop-again : tie.Need-loop-again Inv-loop μ-loop
 loop-again c = let l = c .before .loop in let a = c .before .before .args in let n = l .rest in
@@ -51,17 +36,8 @@ loop-again c = let l = c .before .loop in let a = c .before .before .args in let
   rw e (l .inv .4 ∙ put-next (a .at) n (l .out) (c .loop-test .taken) (l .inv .0) (omega arith)),
 )
 
-cast-out-2 : tie.Need-cast-out-2 Inv-loop μ-loop
-cast-out-2 c = search needs
-
-add-out-2 : tie.Need-add-out-2 Inv-loop μ-loop
-add-out-2 c = search needs
-
 slice-write-out-2 : tie.Need-slice-write-out-2 Inv-loop μ-loop
 slice-write-out-2 c = omega (arith, decimal-some (c .before .loop .rest))
-
-same-length : tie.Need-same-length Inv-loop μ-loop
-same-length c = search needs
 
 returns : tie.Need-returns Inv-loop μ-loop
 returns c = let l = c .before .loop in let a = c .before .before .args in
@@ -74,16 +50,16 @@ put-digits-spec =
     (tie.spec
     Inv-loop
     μ-loop
-    add-end
-    loop-holds
+    (λ c. search needs)
+    (λ c. search needs)
     sub-end
-    cast-out
-    add-out
+    (λ c. search needs)
+    (λ c. search needs)
     slice-write-out
-    loop-less
+    (λ c. search needs)
     loop-again
-    cast-out-2
-    add-out-2
+    (λ c. search needs)
+    (λ c. search needs)
     slice-write-out-2
-    same-length
+    (λ c. search needs)
     returns)

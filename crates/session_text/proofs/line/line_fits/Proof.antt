@@ -1,25 +1,18 @@
 -- `session_text::line::line_fits` meets its contract.
 -- Assumes nothing.
-use mathlib.Core.Path.{_≡_, refl, sym, _∙_, ap}
+use mathlib.Core.Path.{_≡_, sym, _∙_, ap}
 use Prim.Native.Nat.{ℕ, _+_}
 use native.Mathlib.Omega.{arith}
 use lib.ListN.{length}
 use lib.Dec.{leb}
 use borrow.Author.Tests.{lt-leb}
 use Rattle.lists.specs.Lists.{gather}
-use Rattle.session_text.specs.Print.{spaced}
-use Rattle.session_text.specs.Lines.{lineOf}
+use Rattle.session_text.specs.Print.{spaced, lineOf}
 use Rattle.session_text.proofs.Laws.Print.{decimal-few, leb-rest}
 use Rattle.session_text.proofs.Laws.Lines.{length-line}
 use borrow.Author.Needs.{needs}
-use borrow.Author.Needs.{needs}
 use Rattle.session_text.proofs.line.line_fits.Statement.{statement}
 use Rattle.session_text.proofs.line.line_fits.Tie as tie
-use Rattle.session_text.proofs.decimal.digits.Reads as digits-reads
-use Rattle.session_text.proofs.line.values_fit.Reads as values-fit-reads
-
-digits-requires : tie.Need-digits-requires
-digits-requires c κs = search needs
 
 add-head : tie.Need-add-head
 add-head c = omega (arith, c .digits .ensures, decimal-few (c .before .before .args .number))
@@ -28,9 +21,6 @@ returns : tie.Need-returns
 returns c = let s = c .before .before .before in let a = s .args in
     sym (lt-leb (length (lineOf 0 (a .number) (a .values .now))) (a .room)
       (omega (arith, length-line 0 (a .number) (a .values .now), c .before .digits .ensures)))
-
-values-fit-requires : tie.Need-values-fit-requires
-values-fit-requires c κs = search needs
 
 returns-2 : tie.Need-returns-2
 returns-2 c = let s = c .before .before .before .before in let a = s .args in let vs = a .values .now in
@@ -42,4 +32,10 @@ returns-2 c = let s = c .before .before .before .before in let a = s .args in le
 
 pub line-fits-spec : {M : Type 1} → statement M
 line-fits-spec =
-    tie.close (tie.spec digits-requires add-head returns values-fit-requires returns-2)
+    tie.close
+    (tie.spec
+    (λ c κs. search needs)
+    add-head
+    returns
+    (λ c κs. search needs)
+    returns-2)

@@ -8,14 +8,8 @@ use Rattle.lists.specs.Lists.{gather}
 use Rattle.session_text.specs.Print.{spaced}
 use Rattle.session_text.proofs.Laws.Lines.{length-line, parts-line}
 use borrow.Author.Needs.{needs}
-use borrow.Author.Needs.{needs}
 use Rattle.session_text.proofs.line.put_parts.Statement.{statement}
 use Rattle.session_text.proofs.line.put_parts.Tie as tie
-use Rattle.session_text.proofs.line.put_number.Reads as put-number-reads
-use Rattle.session_text.proofs.line.put_values.Reads as put-values-reads
-
-slice-write-out : tie.Need-slice-write-out
-slice-write-out c = search needs
 
 put-number-requires : tie.Need-put-number-requires
 put-number-requires c κs = let s = c .before .before .before in let a = s .args in
@@ -31,12 +25,13 @@ number-length k = k .put-number .kept .1 .0 ∙ length-set (S k .args .out .now)
 values-room : (k : tie.After-put-number)
     → k .put-number .result + length (gather spaced (S k .args .values .now)) < length (k .put-number .last .1 .0)
 values-room k = let a = S k .args in
-    omega (arith, number-length k, length-line (a .letter) (a .number) (a .values .now), S k .pre, k .put-number .ensures .0)
+    omega (arith, number-length k, length-line (a .letter) (a .number) (a .values .now), S k .pre,
+      k .put-number .ensures .0)
 
 put-values-requires : tie.Need-put-values-requires
 put-values-requires c κs = let k = c .before .before .before in
-    let g : k .put-number .result + length (gather spaced (S k .args .values .now)) ≤ length (k .put-number .last .1 .0) =
-      omega (arith, values-room k) in g
+    let g : k .put-number .result + length (gather spaced (S k .args .values .now))
+        ≤ length (k .put-number .last .1 .0) = omega (arith, values-room k) in g
 
 abbrev K : tie.After-put-values → tie.After-put-number
 K v = v .before .before .before .before
@@ -69,7 +64,7 @@ pub put-parts-spec : {M : Type 1} → statement M
 put-parts-spec =
     tie.close
     (tie.spec
-    slice-write-out
+    (λ c. search needs)
     put-number-requires
     put-values-requires
     slice-write-out-2

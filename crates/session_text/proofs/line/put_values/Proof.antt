@@ -1,20 +1,19 @@
 -- `session_text::line::put_values` meets its contract. The invariant: what is left to write are the
 -- values from i on, at `end`. The measure is what is left of the values.
 -- Assumes nothing.
-use mathlib.Core.Path.{_≡_, refl, sym, _∙_, ap}
-use Prim.Native.Nat.{ℕ, _+_, _-_, _≤_, _<_, _^_}
+use mathlib.Core.Path.{_≡_, sym, _∙_}
+use Prim.Native.Nat.{_+_, _-_, _≤_}
 use native.Mathlib.Omega.{arith}
 use borrow.Author.Needs.{needs}
 use native.Mathlib.Numerals.{add-one}
-use mathlib.Core.List.{List, []}
+use mathlib.Core.List.{[]}
 use lib.ListN.{length, drop, drop-of-length-le}
 use Rattle.lists.specs.Lists.{over, gather}
 use Rattle.session_text.specs.Print.{spaced}
-use Rattle.session_text.proofs.Laws.Over.{over-nil}
+use Rattle.lists.proofs.Laws.Over.{over-nil}
 use Rattle.session_text.proofs.Laws.Print.{values-length, values-put}
 use Rattle.session_text.proofs.line.put_values.Statement.{statement}
 use Rattle.session_text.proofs.line.put_values.Tie as tie
-use Rattle.session_text.proofs.line.put_number.Reads as put-number-reads
 
 abbrev Inv-loop : tie.InvT-loop
 Inv-loop values out₀ at end₀ i₀ out end i = let left = gather spaced (drop i values) in
@@ -25,25 +24,10 @@ Inv-loop values out₀ at end₀ i₀ out end i = let left = gather spaced (drop
 abbrev μ-loop : tie.MeasureT-loop
 μ-loop values out₀ at end₀ i₀ out end i = length values - i
 
-loop-holds : tie.Need-loop-holds Inv-loop μ-loop
-loop-holds c = search needs
-
-mul-put-number : tie.Need-mul-put-number Inv-loop μ-loop
-mul-put-number c = search needs
-
-shared-slice-read-put-number : tie.Need-shared-slice-read-put-number Inv-loop μ-loop
-shared-slice-read-put-number c = search needs
-
 put-number-requires : tie.Need-put-number-requires Inv-loop μ-loop
 put-number-requires c κs = let l = c .before .before .before .loop in
     omega (arith, values-length (c .before .before .before .before .before .before .args .values .now) (l .i)
       (c .before .before .loop-test .taken))
-
-add-i : tie.Need-add-i Inv-loop μ-loop
-add-i c = search needs
-
-loop-less : tie.Need-loop-less Inv-loop μ-loop
-loop-less c = search needs
 
 loop-again : tie.Need-loop-again Inv-loop μ-loop
 loop-again c = let r = c .before .before .put-number in
@@ -55,11 +39,9 @@ loop-again c = let r = c .before .before .put-number in
   same ∙ l .inv .1,
   rw (add-one, same) (omega (arith, r .ensures .0)),
   rw add-one (omega (arith, r .ensures .0)),
-  rw (add-one, r .ensures .0, r .ensures .1) (l .inv .4 ∙ values-put vs (l .i) (l .end) (l .out) (k .loop-test .taken) (l .inv .2)),
+  rw (add-one, r .ensures .0, r .ensures .1)
+    (l .inv .4 ∙ values-put vs (l .i) (l .end) (l .out) (k .loop-test .taken) (l .inv .2)),
 )
-
-same-length : tie.Need-same-length Inv-loop μ-loop
-same-length c = search needs
 
 returns : tie.Need-returns Inv-loop μ-loop
 returns c = let l = c .before .loop in let a = c .before .before .before .before .args in
@@ -73,12 +55,12 @@ put-values-spec =
     (tie.spec
     Inv-loop
     μ-loop
-    loop-holds
-    mul-put-number
-    shared-slice-read-put-number
+    (λ c. search needs)
+    (λ c. search needs)
+    (λ c. search needs)
     put-number-requires
-    add-i
-    loop-less
+    (λ c. search needs)
+    (λ c. search needs)
     loop-again
-    same-length
+    (λ c. search needs)
     returns)

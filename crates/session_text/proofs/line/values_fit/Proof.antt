@@ -1,12 +1,12 @@
 -- `session_text::line::values_fit` meets its contract. The invariant: the values from i on fit what is left
 -- of the room where all fit the room. The measure is what is left of the values.
 -- Assumes nothing.
-use mathlib.Core.Path.{_≡_, refl, sym, _∙_, ap}
-use Prim.Native.Nat.{ℕ, suc, _+_, _-_, _≤_, _<_, _^_}
+use mathlib.Core.Path.{_≡_, sym, _∙_, ap}
+use Prim.Native.Nat.{ℕ, suc, _+_, _-_, _≤_}
 use native.Mathlib.Omega.{arith}
 use borrow.Author.Needs.{needs}
 use native.Mathlib.Numerals.{add-one}
-use mathlib.Core.List.{List, []}
+use mathlib.Core.List.{[]}
 use lib.ListN.{length, drop, getD, drop-of-length-le}
 use lib.Dec.{leb}
 use Rattle.lists.specs.Lists.{gather}
@@ -15,7 +15,6 @@ use Rattle.session_text.proofs.Laws.Print.{decimal-few, values-length, 
 use borrow.Author.Tests.{le-leb, lt-leb}
 use Rattle.session_text.proofs.line.values_fit.Statement.{statement}
 use Rattle.session_text.proofs.line.values_fit.Tie as tie
-use Rattle.session_text.proofs.decimal.digits.Reads as digits-reads
 
 abbrev Inv-loop : tie.InvT-loop
 Inv-loop values room left₀ i₀ left i = (i ≤ length values)
@@ -23,18 +22,6 @@ Inv-loop values room left₀ i₀ left i = (i ≤ length values)
 
 abbrev μ-loop : tie.MeasureT-loop
 μ-loop values room left₀ i₀ left i = length values - i
-
-loop-holds : tie.Need-loop-holds Inv-loop μ-loop
-loop-holds c = search needs
-
-mul-digits : tie.Need-mul-digits Inv-loop μ-loop
-mul-digits c = search needs
-
-shared-slice-read-digits : tie.Need-shared-slice-read-digits Inv-loop μ-loop
-shared-slice-read-digits c = search needs
-
-digits-requires : tie.Need-digits-requires Inv-loop μ-loop
-digits-requires c κs = search needs
 
 add-n : tie.Need-add-n Inv-loop μ-loop
 add-n c = let a = c .before .before .before .before .before .args in let i = c .before .before .before .loop .i in
@@ -45,12 +32,6 @@ returns c = let k = c .before .before .before in let l = k .before .loop in
     let vs = k .before .before .before .args .values .now in
     sym (l .inv .1 ∙ lt-leb (length (gather spaced (drop (l .i) vs))) (l .left)
       (omega (arith, values-length vs (l .i) (k .loop-test .taken), c .before .digits .ensures)))
-
-add-i : tie.Need-add-i Inv-loop μ-loop
-add-i c = search needs
-
-loop-less : tie.Need-loop-less Inv-loop μ-loop
-loop-less c = search needs
 
 loop-again : tie.Need-loop-again Inv-loop μ-loop
 loop-again c = let k = c .before .before .before in let l = k .before .loop in
@@ -73,13 +54,13 @@ values-fit-spec =
     (tie.spec
     Inv-loop
     μ-loop
-    loop-holds
-    mul-digits
-    shared-slice-read-digits
-    digits-requires
+    (λ c. search needs)
+    (λ c. search needs)
+    (λ c. search needs)
+    (λ c κs. search needs)
     add-n
     returns
-    add-i
-    loop-less
+    (λ c. search needs)
+    (λ c. search needs)
     loop-again
     returns-2)

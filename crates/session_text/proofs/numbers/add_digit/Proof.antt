@@ -1,9 +1,10 @@
 -- `session_text::numbers::add_digit` meets its contract.
 -- Assumes nothing.
-use mathlib.Core.Path.{_≡_, refl, sym, _∙_, ap}
-use Prim.Native.Nat.{_+_, _-_, _≤_, _<_, _^_}
+use mathlib.Core.Path.{sym}
+use Prim.Native.Nat.{_-_}
 use native.Mathlib.Omega.{arith}
-use Rattle.session_text.proofs.Laws.Numbers.{below-digit, above-digit, is-digit, step-other, step-wide, step-digit}
+use Rattle.session_text.proofs.Laws.Numbers.{below-digit, above-digit, is-digit, step-other, step-wide}
+use Rattle.session_text.proofs.Laws.Numbers.{step-digit}
 use borrow.Author.Needs.{needs}
 use borrow.Author.Needs.{needs}
 use Rattle.session_text.proofs.numbers.add_digit.Statement.{statement}
@@ -17,21 +18,9 @@ returns-2 : tie.Need-returns-2
 returns-2 c = let s = c .before .before in let b = s .args .byte in
     sym (step-other (s .args .p) b (s .pre) (above-digit b (c .if2 .taken)))
 
-cast-digit : tie.Need-cast-digit
-cast-digit c = search needs
-
-sub-if3 : tie.Need-sub-if3
-sub-if3 c = search needs
-
 returns-3 : tie.Need-returns-3
 returns-3 c = let e = c .before .before in let s = e .before .before in let b = s .args .byte in
     sym (step-wide (s .args .p) b (is-digit b (e .before .if1 .left) (e .if2 .left)) (omega arith))
-
-mul-t6 : tie.Need-mul-t6
-mul-t6 c = search needs
-
-add-t7 : tie.Need-add-t7
-add-t7 c = search needs
 
 returns-4 : tie.Need-returns-4
 returns-4 c = let e = c .before .before .before in let s = e .before .before in let b = s .args .byte in
@@ -39,4 +28,13 @@ returns-4 c = let e = c .before .before .before in let s = e .before .before in 
 
 pub add-digit-spec : {M : Type 1} → statement M
 add-digit-spec =
-    tie.close (tie.spec returns returns-2 cast-digit sub-if3 returns-3 mul-t6 add-t7 returns-4)
+    tie.close
+    (tie.spec
+    returns
+    returns-2
+    (λ c. search needs)
+    (λ c. search needs)
+    returns-3
+    (λ c. search needs)
+    (λ c. search needs)
+    returns-4)

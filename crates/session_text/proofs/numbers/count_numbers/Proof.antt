@@ -1,7 +1,7 @@
 -- `session_text::numbers::count_numbers` meets its contract. The invariant: what is left of the line is
 -- numbers, after what is passed, where all of it is, and the counts add up. The measure is what is left.
 -- Assumes nothing.
-use mathlib.Core.Path.{_≡_, refl, sym, _∙_, ap}
+use mathlib.Core.Path.{_≡_, sym, _∙_, ap}
 use Prim.Native.Nat.{ℕ, suc, _+_, _-_, _≤_, _<_, _^_}
 use native.Mathlib.Omega.{arith}
 use lib.ListN.{length, drop, getD, drop-of-length-le}
@@ -17,7 +17,6 @@ use Rattle.session_text.proofs.Laws.Numbers.{Says, step-says, no-count,
 use borrow.Author.Needs.{needs}
 use Rattle.session_text.proofs.numbers.count_numbers.Statement.{statement}
 use Rattle.session_text.proofs.numbers.count_numbers.Tie as tie
-use Rattle.session_text.proofs.numbers.step.Reads as step-reads
 
 abbrev Inv-loop : tie.InvT-loop
 Inv-loop line from p₀ i₀ p i = (i ≤ length line) × (p .count ≤ i) × (p .value < 2 ^ 64)
@@ -27,24 +26,9 @@ Inv-loop line from p₀ i₀ p i = (i ≤ length line) × (p .count ≤ i) × (p
 abbrev μ-loop : tie.MeasureT-loop
 μ-loop line from p₀ i₀ p i = length line - i
 
-fresh-requires : tie.Need-fresh-requires Inv-loop μ-loop
-fresh-requires c κs = search needs
-
 loop-holds : tie.Need-loop-holds Inv-loop μ-loop
 loop-holds c = let a = c .before .before .args in rw (c .fresh .ensures)
     (search needs, search needs, omega arith, omega arith, ok-start (drop (a .from) (a .line .now)))
-
-shared-slice-read-step : tie.Need-shared-slice-read-step Inv-loop μ-loop
-shared-slice-read-step c = search needs
-
-step-requires : tie.Need-step-requires Inv-loop μ-loop
-step-requires c κs = search needs
-
-enum-known-next : tie.Need-enum-known-next Inv-loop μ-loop
-enum-known-next c = search needs
-
-enum-told : tie.Need-enum-told Inv-loop μ-loop
-enum-told c = search needs
 
 -- in a turn: the byte at i, and what its step says
 abbrev L : tie.After-step Inv-loop μ-loop → tie.At-loop Inv-loop μ-loop
@@ -70,12 +54,6 @@ returns c = let k = c .before .before in let a = S k .args in let l = L k .loop 
     no-count (drop (a .from) (a .line .now)) (l .inv .4
       ∙ (ap (okFrom (l .p .some) (l .p .value)) (here k) ∙ says k Not (c .enum-told .given .1)))
 
-add-i : tie.Need-add-i Inv-loop μ-loop
-add-i c = search needs
-
-loop-less : tie.Need-loop-less Inv-loop μ-loop
-loop-less c = search needs
-
 loop-again : tie.Need-loop-again Inv-loop μ-loop
 loop-again c = let k = c .before .before .before in let l = L k .loop in
     let q = c .before .next .given .0 .0 in let t = says k (To q) (c .before .next .given .1) in (
@@ -88,7 +66,7 @@ loop-again c = let k = c .before .before .before in let l = L k .loop in
 
 -- after the loop nothing is left
 ended : (c : tie.After-loop Inv-loop μ-loop) → let l = c .before .loop in
-    let bs = drop (c .before .before .before .before .args .from) (c .before .before .before .before .args .line .now) in
+    let a = c .before .before .before .before .args in let bs = drop (a .from) (a .line .now) in
     (l .p .count ≡ laterIn bs) × (areNumbers bs ≡ l .p .some)
 ended c = let l = c .before .loop in let line = c .before .before .before .before .args .line .now in
     let none : drop (l .i) line ≡ [] = drop-of-length-le line {i = l .i} (c .loop-test .left) in
@@ -99,11 +77,9 @@ returns-2 : tie.Need-returns-2 Inv-loop μ-loop
 returns-2 c = let e = c .before .before in let a = e .before .before .before .before .args in
     no-count (drop (a .from) (a .line .now)) (ended e .1 ∙ not-true (e .before .loop .p .some) (c .if1 .taken))
 
-add-result : tie.Need-add-result Inv-loop μ-loop
-add-result c = search needs
-
 returns-3 : tie.Need-returns-3 Inv-loop μ-loop
-returns-3 c = let e = c .before .before .before in let a = e .before .before .before .before .args in let p = e .before .loop .p in
+returns-3 c = let e = c .before .before .before in let a = e .before .before .before .before .args in
+    let p = e .before .loop .p in
     full-count (drop (a .from) (a .line .now)) (p .count)
     (ended e .1 ∙ not-false (p .some) (c .before .if1 .left)) (ended e .0)
 
@@ -113,16 +89,16 @@ count-numbers-spec =
     (tie.spec
     Inv-loop
     μ-loop
-    fresh-requires
+    (λ c κs. search needs)
     loop-holds
-    shared-slice-read-step
-    step-requires
-    enum-known-next
-    enum-told
+    (λ c. search needs)
+    (λ c κs. search needs)
+    (λ c. search needs)
+    (λ c. search needs)
     returns
-    add-i
-    loop-less
+    (λ c. search needs)
+    (λ c. search needs)
     loop-again
     returns-2
-    add-result
+    (λ c. search needs)
     returns-3)

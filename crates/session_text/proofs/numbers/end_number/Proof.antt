@@ -12,15 +12,15 @@ returns : tie.Need-returns
 returns c = let p = c .before .before .args .p in
     sym (step-none p (not-true (p .some) (c .if1 .taken)))
 
-add-fresh : tie.Need-add-fresh
-add-fresh c = search needs
-
-fresh-requires : tie.Need-fresh-requires
-fresh-requires c κs = search needs
-
 returns-2 : tie.Need-returns-2
 returns-2 c = let e = c .before .before in let p = e .before .before .args .p in
     rw (c .fresh .ensures) (sym (step-end p (not-false (p .some) (e .if1 .left))))
 
 pub end-number-spec : {M : Type 1} → statement M
-end-number-spec = tie.close (tie.spec returns add-fresh fresh-requires returns-2)
+end-number-spec =
+    tie.close
+    (tie.spec
+    returns
+    (λ c. search needs)
+    (λ c κs. search needs)
+    returns-2)

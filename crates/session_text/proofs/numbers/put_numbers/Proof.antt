@@ -13,8 +13,8 @@ use Rattle.lists.specs.Lists.{over}
 use Rattle.session_text.specs.Grammar.{isDigit, numbersOf}
 use Rattle.session_text.specs.Numbers.{grownBy}
 use Rattle.session_text.proofs.Laws.Grammar.{okFrom, valuesFrom, laterIn, ok-start, ok-true, ok-fits, ok-digit}
-use Rattle.session_text.proofs.Laws.Grammar.{ok-is-digit, ok-after-blank, digit-range, values-start, values-other}
-use Rattle.session_text.proofs.Laws.Grammar.{later-blank, later-other}
+use Rattle.session_text.proofs.Laws.Grammar.{ok-is-digit, ok-after-blank, digit-range, values-start}
+use Rattle.session_text.proofs.Laws.Grammar.{values-other, later-blank, later-other}
 use Rattle.session_text.proofs.Laws.Numbers.{length-numbers, put-blank, put-end}
 use borrow.Author.Needs.{needs}
 use Rattle.session_text.proofs.numbers.put_numbers.Statement.{statement}
@@ -57,23 +57,8 @@ here k = drop-cons (Line k) (L k .loop .i) 0 (k .before .loop-test .taken)
 ok-here : (k : tie.After-shared-slice-known Inv-loop μ-loop) → okFrom true (L k .loop .value) (Byte k ∷ Rest k) ≡ true
 ok-here k = sym (ap (okFrom true (L k .loop .value)) (here k)) ∙ L k .loop .inv .3
 
-shared-slice-read-byte : tie.Need-shared-slice-read-byte Inv-loop μ-loop
-shared-slice-read-byte c = search needs
-
-add-i : tie.Need-add-i Inv-loop μ-loop
-add-i c = search needs
-
 mul-numbers : tie.Need-mul-numbers Inv-loop μ-loop
 mul-numbers c = omega (arith, c .before .before .before .before .good .1 .1 .0 .1)
-
-slice-write-numbers : tie.Need-slice-write-numbers Inv-loop μ-loop
-slice-write-numbers c = search needs
-
-add-k : tie.Need-add-k Inv-loop μ-loop
-add-k c = search needs
-
-loop-less : tie.Need-loop-less Inv-loop μ-loop
-loop-less c = search needs
 
 loop-again : tie.Need-loop-again Inv-loop μ-loop
 loop-again c = let k = c .before in let l = L k .loop in
@@ -110,9 +95,6 @@ cast-value c = omega (arith, digit-range (Byte (c .before)) (digit c))
 add-value : tie.Need-add-value Inv-loop μ-loop
 add-value c = omega (arith, value-fits c)
 
-loop-less-2 : tie.Need-loop-less-2 Inv-loop μ-loop
-loop-less-2 c = search needs
-
 loop-again-2 : tie.Need-loop-again-2 Inv-loop μ-loop
 loop-again-2 c = let k = c .before in let l = L k .loop in (
   search needs,
@@ -122,15 +104,6 @@ loop-again-2 c = let k = c .before in let l = L k .loop in (
   rw add-one (l .inv .4 ∙ ap (λ (ns : List ℕ). over (l .k) ns (l .numbers))
     (ap (valuesFrom (l .value)) (here k) ∙ values-other (l .value) (Byte k) (Rest k) (c .if1 .left))),
 )
-
-mul-numbers-2 : tie.Need-mul-numbers-2 Inv-loop μ-loop
-mul-numbers-2 c = search needs
-
-slice-write-numbers-2 : tie.Need-slice-write-numbers-2 Inv-loop μ-loop
-slice-write-numbers-2 c = search needs
-
-same-length : tie.Need-same-length Inv-loop μ-loop
-same-length c = search needs
 
 returns : tie.Need-returns Inv-loop μ-loop
 returns c = let l = c .before .loop in let line = c .before .before .args .line .now in
@@ -145,20 +118,20 @@ put-numbers-spec =
     Inv-loop
     μ-loop
     loop-holds
-    shared-slice-read-byte
-    add-i
+    (λ c. search needs)
+    (λ c. search needs)
     mul-numbers
-    slice-write-numbers
-    add-k
-    loop-less
+    (λ c. search needs)
+    (λ c. search needs)
+    (λ c. search needs)
     loop-again
     mul-value
     sub-value
     cast-value
     add-value
-    loop-less-2
+    (λ c. search needs)
     loop-again-2
-    mul-numbers-2
-    slice-write-numbers-2
-    same-length
+    (λ c. search needs)
+    (λ c. search needs)
+    (λ c. search needs)
     returns)

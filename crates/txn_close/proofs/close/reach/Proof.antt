@@ -2,75 +2,35 @@
 -- The invariant: LCE and the count of the whole pass are those of what is left, from the last epoch passed.
 -- The measure is the number of places left.
 -- Assumes nothing.
-use mathlib.Core.Path.{_≡_, refl, sym}
-use Prim.Native.Nat.{_≤_, _-_, min}
+use mathlib.Core.Path.{_≡_, refl, _∙_}
+use Prim.Native.Nat.{_+_, _-_}
+use native.Mathlib.Nat.{add-zero}
 use native.Mathlib.Omega.{arith}
+use lib.ListN.{take, drop}
 use borrow.Author.Tests.{eq-eqb, ne-eqb}
-use lib.ListN.{length, take, getD}
+use Rattle.lists.proofs.Laws.Places.{Scan, scan-start, scan-on, scan-next, scan-end}
+use Rattle.rules.specs.Limits.{writersMax}
 use Rattle.txn_find.proofs.Laws.Places.{writers-32, pastRw}
-use Rattle.txn_find.proofs.Laws.Scan.{used-next, used-end}
-use Rattle.txn_close.proofs.Laws.Settle.{Reaching, reach-open, reach-on, reach-end}
+use Rattle.txn_close.specs.Close.{lead, runLce}
 use Rattle.txn_close.proofs.close.reach.Statement.{statement}
 use Rattle.txn_close.proofs.close.reach.Tie as tie
 
 abbrev Inv-loop : tie.InvT-loop
-Inv-loop lce ts n last₀ k₀ last k =
-    (k ≤ n) × (n ≡ min (ts .count) 32) × (length (ts .at) ≡ 32)
-      × Reaching lce (take (ts .count) (ts .at)) last k
+Inv-loop lce ts n last₀ k₀ last k = Scan (ts .at) (ts .count) writersMax n k
+    × (runLce lce (take (ts .count) (ts .at)) ≡ runLce last (drop k (take (ts .count) (ts .at))))
+    × (lead (take (ts .count) (ts .at)) ≡ k + lead (drop k (take (ts .count) (ts .at))))
 
 abbrev μ-loop : tie.MeasureT-loop
 μ-loop lce ts n last₀ k₀ last k = n - k
 
-least-requires : tie.Need-least-requires Inv-loop μ-loop
-least-requires c κs = omega arith
-
-loop-holds : tie.Need-loop-holds Inv-loop μ-loop
-loop-holds c =
-    (omega arith, c .least .ensures, writers-32 (c .before .args .t1) _ (c .before .good .0),
-      record { lce-left = refl; lead-left = omega arith })
-
-mul-if1 : tie.Need-mul-if1 Inv-loop μ-loop
-mul-if1 c = omega arith
-
-element-copy-out-if1 : tie.Need-element-copy-out-if1 Inv-loop μ-loop
-element-copy-out-if1 c = omega arith
-
 returns : tie.Need-returns Inv-loop μ-loop
-returns c =
-    let c2 = c .before .before in let c4 = c2 .before .before in
-    let a = c2 .loop in let ts = c4 .args .t1 in
-    let w = reach-open (a .inv .3) (getD (ts .at) (a .k) pastRw) _
-      (used-next (ts .at) (ts .count) 32 (a .inv .2) pastRw (a .k) (omega arith))
-          (eq-eqb _ _ (c .if1 .taken)) in
-    λ i. record { lce = sym (w .0) i; count = sym (w .1) i }
-
-mul-last : tie.Need-mul-last Inv-loop μ-loop
-mul-last c = omega arith
-
-element-copy-out-last : tie.Need-element-copy-out-last Inv-loop μ-loop
-element-copy-out-last c = omega arith
-
-add-k : tie.Need-add-k Inv-loop μ-loop
-add-k c = omega arith
-
-loop-less : tie.Need-loop-less Inv-loop μ-loop
-loop-less c = omega arith
+returns c = let l = c .before .before .loop .inv in
+    rw (l .1, l .2, scan-next (l .0) pastRw (omega arith), eq-eqb _ _ (c .if1 .taken), add-zero)
 
 loop-again : tie.Need-loop-again Inv-loop μ-loop
-loop-again c =
-    let c2 = c .before .before in let c4 = c2 .before .before in
-    let a = c2 .loop in let ts = c4 .args .t1 in
-    (omega arith, a .inv .1, a .inv .2,
-     reach-on (a .inv .3) (getD (ts .at) (a .k) pastRw)
-       (used-next (ts .at) (ts .count) 32 (a .inv .2) pastRw (a .k) (omega arith))
-       (ne-eqb _ _ (c .if1 .left)))
-
-returns-2 : tie.Need-returns-2 Inv-loop μ-loop
-returns-2 c =
-    let c3 = c .before .before .before in
-    let a = c .before .loop in let ts = c3 .args .t1 in
-    let w = reach-end (a .inv .3) (used-end (ts .at) (ts .count) 32 (a .inv .2) (a .k) (omega arith)) in
-    λ i. record { lce = sym (w .0) i; count = sym (w .1) i }
+loop-again c = let l = c .before .before .loop .inv in let next = scan-next (l .0) pastRw (omega arith) in
+    (scan-on (l .0) (omega arith), l .1 ∙ rw (next, ne-eqb _ _ (c .if1 .left)),
+      l .2 ∙ rw (next, ne-eqb _ _ (c .if1 .left)) (omega arith))
 
 pub reach-spec : {M : Type 1} → statement M
 reach-spec =
@@ -78,14 +38,15 @@ reach-spec =
     (tie.spec
     Inv-loop
     μ-loop
-    least-requires
-    loop-holds
-    mul-if1
-    element-copy-out-if1
+    (λ c κs. omega arith)
+    (λ c. (scan-start (writers-32 (c .before .args .t1) _ (c .before .good .0)) (c .in-use .ensures), refl,
+      omega arith))
+    (λ c. omega arith)
+    (λ c. omega arith)
     returns
-    mul-last
-    element-copy-out-last
-    add-k
-    loop-less
+    (λ c. omega arith)
+    (λ c. omega arith)
+    (λ c. omega arith)
+    (λ c. omega arith)
     loop-again
-    returns-2)
+    (λ c. let l = c .before .loop .inv in rw (l .1, l .2, scan-end (l .0) (omega arith), add-zero)))

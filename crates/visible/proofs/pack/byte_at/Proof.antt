@@ -22,18 +22,6 @@ loop-holds : tie.Need-loop-holds Inv-loop μ-loop
 unfolding byteOf
 loop-holds c = (search needs, refl)
 
-sub-k : tie.Need-sub-k Inv-loop μ-loop
-sub-k c = search needs
-
-add-bit : tie.Need-add-bit Inv-loop μ-loop
-add-bit c = search needs
-
-shared-slice-read-bit : tie.Need-shared-slice-read-bit Inv-loop μ-loop
-shared-slice-read-bit c = search needs
-
-bit-requires : tie.Need-bit-requires Inv-loop μ-loop
-bit-requires c κs = search needs
-
 -- the byte with one more flag, below the others
 made : (c : tie.After-bit Inv-loop μ-loop) → let l = c .before .before .before .loop in
     let a = c .before .before .before .before .before .args in let at = a .from + (l .k - 1) in
@@ -61,9 +49,6 @@ mul-byte c = omega (arith, small c, one c)
 add-byte : tie.Need-add-byte Inv-loop μ-loop
 add-byte c = omega (arith, small c, one c)
 
-loop-less : tie.Need-loop-less Inv-loop μ-loop
-loop-less c = search needs
-
 loop-again : tie.Need-loop-again Inv-loop μ-loop
 loop-again c = (search needs, made c)
 
@@ -79,12 +64,12 @@ byte-at-spec =
     Inv-loop
     μ-loop
     loop-holds
-    sub-k
-    add-bit
-    shared-slice-read-bit
-    bit-requires
+    (λ c. search needs)
+    (λ c. search needs)
+    (λ c. search needs)
+    (λ c κs. search needs)
     mul-byte
     add-byte
-    loop-less
+    (λ c. search needs)
     loop-again
     returns)

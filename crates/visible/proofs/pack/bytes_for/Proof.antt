@@ -10,12 +10,10 @@ returns : tie.Need-returns
 unfolding bytesFor
 returns c = omega arith
 
-add-result : tie.Need-add-result
-add-result c = search needs
-
 returns-2 : tie.Need-returns-2
 unfolding bytesFor
 returns-2 c = omega arith
 
 pub bytes-for-spec : {M : Type 1} → statement M
-bytes-for-spec = tie.close (tie.spec returns add-result returns-2)
+bytes-for-spec =
+    tie.close (tie.spec returns (λ c. search needs) returns-2)

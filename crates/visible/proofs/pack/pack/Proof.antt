@@ -24,21 +24,6 @@ loop-holds : tie.Need-loop-holds Inv-loop μ-loop
 unfolding packed
 loop-holds c = (search needs, refl, refl)
 
-mul-byte-at : tie.Need-mul-byte-at Inv-loop μ-loop
-mul-byte-at c = search needs
-
-byte-at-requires : tie.Need-byte-at-requires Inv-loop μ-loop
-byte-at-requires c κs = search needs
-
-slice-write-bitmap : tie.Need-slice-write-bitmap Inv-loop μ-loop
-slice-write-bitmap c = search needs
-
-add-j : tie.Need-add-j Inv-loop μ-loop
-add-j c = search needs
-
-loop-less : tie.Need-loop-less Inv-loop μ-loop
-loop-less c = search needs
-
 loop-again : tie.Need-loop-again Inv-loop μ-loop
 loop-again c = let l = c .before .before .loop in let a = c .before .before .before .before .before .args in (
   search needs,
@@ -46,9 +31,6 @@ loop-again c = let l = c .before .before .loop in let a = c .before .before .bef
   rw (c .byte-at .ensures, l .inv .2, add-one)
       (pack-next (a .shown .now) (a .bitmap .now) (l .j) (omega arith)),
 )
-
-same-length : tie.Need-same-length Inv-loop μ-loop
-same-length c = search needs
 
 returns : tie.Need-returns Inv-loop μ-loop
 returns c = let all : c .before .loop .j ≡ c .before .before .before .before .args .n = omega arith in
@@ -61,11 +43,11 @@ pack-spec =
     Inv-loop
     μ-loop
     loop-holds
-    mul-byte-at
-    byte-at-requires
-    slice-write-bitmap
-    add-j
-    loop-less
+    (λ c. search needs)
+    (λ c κs. search needs)
+    (λ c. search needs)
+    (λ c. search needs)
+    (λ c. search needs)
     loop-again
-    same-length
+    (λ c. search needs)
     returns)

@@ -2,19 +2,18 @@
 -- what is left of n.
 -- Assumes nothing.
 use mathlib.Core.Path.{_≡_, refl, _∙_}
-use mathlib.Core.Bool.{Bool}
 use mathlib.Core.List.{List, _∷_}
-use Prim.Native.Nat.{ℕ, suc, _+_, _-_, _≤_}
-use native.Mathlib.Numerals.{add-one}
+use Prim.Native.Nat.{_+_, _-_, _≤_}
 use native.Mathlib.Omega.{arith}
-use lib.ListN.{length, take, drop, getD, drop-of-length-le, length-take}
+use lib.ListN.{length, take, drop, getD}
 use Rattle.rules.specs.declared.Entry.{Entry}
 use Rattle.rules.specs.Limits.{entriesMax}
 use Rattle.visible.specs.View.{seesView}
 use Rattle.visible.specs.Passes.{asTop}
-use Rattle.visible.proofs.Laws.Places.{unmapped, drop-used}
-use Rattle.visible.specs.Bare.{noEntry}
-use Rattle.visible.proofs.Laws.Rows.{Laid, laid-none, entry-ok, entry-within, laid-next, laid-all}
+use Rattle.lists.proofs.Laws.Places.{used-next, used-end}
+use Rattle.area.proofs.Laws.Area.{area-length}
+use Rattle.lent.specs.Entries.{none}
+use Rattle.visible.proofs.Laws.Rows.{Laid, Turn, laid-none, laid-turn, laid-all}
 use borrow.Author.Needs.{needs}
 use Rattle.visible.proofs.rows.show.Statement.{statement}
 use Rattle.visible.proofs.rows.show.Tie as tie
@@ -29,7 +28,7 @@ abbrev μ-loop : tie.MeasureT-loop
 loop-holds : tie.Need-loop-holds Inv-loop μ-loop
 loop-holds c = let a = c .before .args in let at = a .t2 .at in (
   search needs,
-  unmapped _ at 64 (c .before .good .1 .0 .1 .1 .0 .1 .0 .1),
+  area-length (a .t2) _ (c .before .good .1 .0),
   refl,
   laid-none (seesView (a .v)) (asTop (a .top)) (take (a .n) at) (a .shown .now) (c .before .pre .1),
 )
@@ -39,77 +38,52 @@ abbrev S : tie.In-loop Inv-loop μ-loop → tie.Start Inv-loop μ-loop
 S k = k .before .before .before
 
 abbrev E : tie.In-loop Inv-loop μ-loop → Entry
-E k = getD (S k .args .t2 .at) (k .before .loop .i) noEntry
+E k = getD (S k .args .t2 .at) (k .before .loop .i) none
 
 -- the table's entries in use, and where they are laid
 abbrev Es : tie.In-loop Inv-loop μ-loop → List Entry
 Es k = take (S k .args .n) (S k .args .t2 .at)
 
-abbrev L : (k : tie.In-loop Inv-loop μ-loop) → ℕ → ℕ → ℕ → List Bool → Type 0
-L k = Laid (seesView (S k .args .v)) (asTop (S k .args .top)) (Es k)
-
 here : (k : tie.In-loop Inv-loop μ-loop)
-    → drop (k .before .loop .i) (Es k) ≡ E k ∷ drop (suc (k .before .loop .i)) (Es k)
-here k = drop-used (S k .args .t2 .at) (S k .args .n) (k .before .loop .i) noEntry (omega (arith, S k .pre .0))
-    (k .loop-test .taken)
+    → drop (k .before .loop .i) (Es k) ≡ E k ∷ drop (k .before .loop .i + 1) (Es k)
+here k = let h = S k .pre .0 in
+    used-next (S k .args .t2 .at) (S k .args .n) entriesMax (k .before .loop .inv .1) none (k .before .loop .i)
+      (omega arith)
 
-above : (k : tie.In-loop Inv-loop μ-loop) → k .before .loop .from ≤ E k .end
-above k = let a = S k .args in let l = k .before .loop in
-    entry-ok (seesView (a .v)) (asTop (a .top)) (Es k) (l .i) (l .from) (l .count) (l .shown) (l .inv .3)
-    (E k) (here k) .low
-
-within : (k : tie.In-loop Inv-loop μ-loop) → E k .end ≤ length (k .before .loop .shown)
-within k = let a = S k .args in let l = k .before .loop in
-    entry-within (seesView (a .v)) (asTop (a .top)) (Es k) (l .i) (l .from) (l .count) (l .shown) (l .inv .3)
-    (E k) (here k)
-
-mul-e : tie.Need-mul-e Inv-loop μ-loop
-mul-e c = search needs
-
-element-copy-out-e : tie.Need-element-copy-out-e Inv-loop μ-loop
-element-copy-out-e c = search needs
-
-shows-requires : tie.Need-shows-requires Inv-loop μ-loop
-shows-requires c κs = search needs
+turn : (k : tie.In-loop Inv-loop μ-loop) → let a = S k .args in let l = k .before .loop in
+    Turn (seesView (a .v)) (asTop (a .top)) (Es k) (l .i) (l .from) (l .count) (l .shown) (E k)
+turn k = let a = S k .args in let l = k .before .loop in
+    laid-turn (seesView (a .v)) (asTop (a .top)) (Es k) (l .i) (l .from) (l .count) (l .shown) (l .inv .3) (E k)
+      (here k)
 
 fill-requires : tie.Need-fill-requires Inv-loop μ-loop
-fill-requires c κs = let k = c .before .before .before in (above k, within k)
+fill-requires c κs = let t = turn (c .before .before .before) in (t .low, t .high)
 
 -- and with it the entries up to i are laid
-abbrev Turn : tie.After-slice-known2 Inv-loop μ-loop → tie.In-loop Inv-loop μ-loop
-Turn c = c .before .before .before .before .before .before
+abbrev this : tie.After-slice-known2 Inv-loop μ-loop → tie.In-loop Inv-loop μ-loop
+this c = c .before .before .before .before .before .before
 
-next : (c : tie.After-slice-known2 Inv-loop μ-loop) → let l = Turn c .before .loop in
-    let r = c .before .before .fill in L (Turn c) (suc (l .i)) (E (Turn c) .end) (l .count + r .result) (r .last .0)
-next c = let k = Turn c in let a = S k .args in let l = k .before .loop in
-    let r = c .before .before .fill in let b = c .before .before .before .before .shows in
-    laid-next (seesView (a .v)) (asTop (a .top)) (Es k) (l .i) (l .from) (l .count) (l .shown) (l .inv .3)
-    (E k) (here k) (b .result) (r .result) (r .last .0) (b .ensures) (r .ensures .0) (r .ensures .1)
+next : (c : tie.After-slice-known2 Inv-loop μ-loop) → let k = this c in let a = S k .args in let l = k .before .loop in
+    let r = c .before .before .fill in
+    Laid (seesView (a .v)) (asTop (a .top)) (Es k) (l .i + 1) (E k .end) (l .count + r .result) (r .last .0)
+next c = let r = c .before .before .fill in let b = c .before .before .before .before .shows in
+    turn (this c) .next (b .result) (r .result) (r .last .0) (b .ensures) (r .ensures .0) (r .ensures .1)
 
 add-count : tie.Need-add-count Inv-loop μ-loop
-add-count c = omega (arith, next c .few, within (Turn c), S (Turn c) .good)
-
-add-i : tie.Need-add-i Inv-loop μ-loop
-add-i c = search needs
-
-loop-less : tie.Need-loop-less Inv-loop μ-loop
-loop-less c = search needs
+add-count c = omega (arith, next c .few, turn (this c) .high, S (this c) .good)
 
 loop-again : tie.Need-loop-again Inv-loop μ-loop
 loop-again c = (
   search needs,
   search needs,
-  c .before .before .fill .kept .0 ∙ Turn c .before .loop .inv .2,
-  rw add-one (next c),
+  c .before .before .fill .kept .0 ∙ this c .before .loop .inv .2,
+  next c,
 )
-
-same-length : tie.Need-same-length Inv-loop μ-loop
-same-length c = search needs
 
 returns : tie.Need-returns Inv-loop μ-loop
 returns c = let l = c .before .loop in let a = c .before .before .before .args in let at = a .t2 .at in
     laid-all (seesView (a .v)) (asTop (a .top)) (take (a .n) at) (l .i) (l .from) (l .count) (l .shown)
-    (l .inv .3) (drop-of-length-le (take (a .n) at) {i = l .i} (omega (arith, length-take (a .n) at)))
+    (l .inv .3) (used-end at (a .n) entriesMax (l .inv .1) (l .i) (omega arith))
 
 pub show-spec : {M : Type 1} → statement M
 show-spec =
@@ -118,13 +92,13 @@ show-spec =
     Inv-loop
     μ-loop
     loop-holds
-    mul-e
-    element-copy-out-e
-    shows-requires
+    (λ c. search needs)
+    (λ c. search needs)
+    (λ c κs. search needs)
     fill-requires
     add-count
-    add-i
-    loop-less
+    (λ c. search needs)
+    (λ c. search needs)
     loop-again
-    same-length
+    (λ c. search needs)
     returns)

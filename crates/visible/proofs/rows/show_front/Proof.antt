@@ -6,9 +6,6 @@ use borrow.Author.Needs.{needs}
 use Rattle.visible.proofs.rows.show_front.Statement.{statement}
 use Rattle.visible.proofs.rows.show_front.Tie as tie
 
-slice-relend-prefix-show : tie.Need-slice-relend-prefix-show
-slice-relend-prefix-show c = search needs
-
 slice-aggregate-show : tie.Need-slice-aggregate-show
 slice-aggregate-show c = let s = c .before .before in
     sym (length-take-le (s .args .rows) (s .args .shown .now) (s .pre .1))
@@ -17,13 +14,15 @@ show-requires : tie.Need-show-requires
 show-requires c κs = let s = c .before .before in
     (s .pre .0, rw (length-take-le (s .args .rows) (s .args .shown .now) (s .pre .1)) (s .pre .2))
 
-same-length : tie.Need-same-length
-same-length c = search needs
-
 returns : tie.Need-returns
 returns c = let r = c .before .before .show in (r .ensures .0, rw (r .ensures .1))
 
 pub show-front-spec : {M : Type 1} → statement M
 show-front-spec =
     tie.close
-    (tie.spec slice-relend-prefix-show slice-aggregate-show show-requires same-length returns)
+    (tie.spec
+    (λ c. search needs)
+    slice-aggregate-show
+    show-requires
+    (λ c. search needs)
+    returns)

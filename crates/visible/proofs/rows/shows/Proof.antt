@@ -6,18 +6,18 @@ use borrow.Author.Needs.{needs}
 use Rattle.visible.proofs.rows.shows.Statement.{statement}
 use Rattle.visible.proofs.rows.shows.Tie as tie
 
-sees-requires : tie.Need-sees-requires
-sees-requires c κs = search needs
-
 returns : tie.Need-returns
 returns c = let r = c .before .sees in rw (sym (r .ensures) ∙ not-true (r .result) (c .if1 .taken))
-
-hides-requires : tie.Need-hides-requires
-hides-requires c κs = search needs
 
 returns-2 : tie.Need-returns-2
 returns-2 c = let r = c .before .before .sees in
     rw (c .hides .ensures, sym (r .ensures) ∙ not-false (r .result) (c .before .if1 .left))
 
 pub shows-spec : {M : Type 1} → statement M
-shows-spec = tie.close (tie.spec sees-requires returns hides-requires returns-2)
+shows-spec =
+    tie.close
+    (tie.spec
+    (λ c κs. search needs)
+    returns
+    (λ c κs. search needs)
+    returns-2)

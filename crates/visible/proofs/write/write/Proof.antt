@@ -1,12 +1,11 @@
 -- `visible::write::write` meets its contract: the flags under the greatest delete are the flags, and those
 -- beyond the rows are unused bits.
 -- Assumes nothing.
-use mathlib.Core.Path.{_≡_, sym, ap, _∙_}
+use mathlib.Core.Path.{_≡_, sym}
 use Prim.Native.Nat.{_-_}
 use native.Mathlib.Omega.{arith}
 use lib.ListN.{take}
 use denote.Ref.{now}
-use Rattle.lists.specs.Lists.{ones}
 use Rattle.rules.specs.Limits.{rowsMax}
 use Rattle.rules.specs.Bitmap.{bytesFor}
 use Rattle.visible.specs.View.{seesView, appliesView}
@@ -18,29 +17,11 @@ use borrow.Author.Needs.{needs}
 use Rattle.visible.proofs.write.write.Statement.{statement}
 use Rattle.visible.proofs.write.write.Tie as tie
 
-find-top-requires : tie.Need-find-top-requires
-find-top-requires c κs = search needs
-
-slice-aggregate-show-front : tie.Need-slice-aggregate-show-front
-slice-aggregate-show-front c = search needs
-
-show-front-requires : tie.Need-show-front-requires
-show-front-requires c κs = search needs
-
-slice-aggregate-pack : tie.Need-slice-aggregate-pack
-slice-aggregate-pack c = search needs
-
-bytes-for-requires : tie.Need-bytes-for-requires
-bytes-for-requires c κs = search needs
-
 pack-requires : tie.Need-pack-requires
 unfolding bytesFor
 pack-requires c κs = let k = c .before .before .before .before in let s = k .before .before .before .before in
     let e = c .before .bytes-for .ensures in
     (omega (arith, e, s .pre .1, k .show-front .kept .1 .1 .1 .1 .1 .0), rw e (s .pre .3))
-
-same-length : tie.Need-same-length
-same-length c = search needs
 
 returns : tie.Need-returns
 returns c = let b = c .before .before .before .before in let r = b .before .before .before in
@@ -57,11 +38,11 @@ pub write-spec : {M : Type 1} → statement M
 write-spec =
     tie.close
     (tie.spec
-    find-top-requires
-    slice-aggregate-show-front
-    show-front-requires
-    slice-aggregate-pack
-    bytes-for-requires
+    (λ c κs. search needs)
+    (λ c. search needs)
+    (λ c κs. search needs)
+    (λ c. search needs)
+    (λ c κs. search needs)
     pack-requires
-    same-length
+    (λ c. search needs)
     returns)

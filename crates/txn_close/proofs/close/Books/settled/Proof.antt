@@ -3,15 +3,12 @@
 use mathlib.Core.Path.{sym, ap}
 use native.Mathlib.Omega.{arith}
 use lib.ListN.{length-take}
+use borrow.Author.Needs.{needs}
 use Rattle.rules.specs.Manager.{writersOf}
 use Rattle.txn_close.specs.declared.close.Reached.{Reached}
 use Rattle.txn_close.proofs.Laws.Settle.{lead-length, settled-runs}
-use borrow.Author.Needs.{needs}
 use Rattle.txn_close.proofs.close.Books.settled.Statement.{statement}
 use Rattle.txn_close.proofs.close.Books.settled.Tie as tie
-
-reach-requires : tie.Need-reach-requires
-reach-requires c κs = search needs
 
 cut-writers-requires : tie.Need-cut-writers-requires
 cut-writers-requires c κs =
@@ -22,8 +19,8 @@ cut-writers-requires c κs =
 
 returns : tie.Need-returns
 returns c =
-    let c2 = c .before .before in let r = c2 .before in let s = r .before .before in
-    rw (c2 .cut-writers .ensures, r .reach .ensures) (sym (settled-runs (s .args .self .manager) (s .pre .1 .1)))
+    let k = c .before in let r = k .before in let s = r .before .before in let m = s .args .self .manager in
+    rw (k .cut-writers .ensures, r .reach .ensures) (sym (settled-runs m (writersOf m) (s .pre .1 .1)))
 
 pub settled-spec : {M : Type 1} → statement M
-settled-spec = tie.close (tie.spec reach-requires cut-writers-requires returns)
+settled-spec = tie.close (tie.spec (λ c κs. search needs) cut-writers-requires returns)

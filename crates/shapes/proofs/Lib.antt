@@ -1,0 +1,10 @@
+pub mod Batched
+pub mod Callers
+pub mod Change
+pub mod Core
+pub mod Look
+pub mod Saves
+pub mod Saving
+pub mod Scan
+pub mod Shape
+pub mod Tail
