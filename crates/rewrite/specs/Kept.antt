@@ -12,7 +12,7 @@ use Rattle.rules.specs.Limits.{rowsMax, entriesMax}
 use Rattle.rules.specs.Span.{Span, isDelete, entriesOf, wordsOf}
 use Rattle.rules.specs.Rewrite.{joined}
 use Rattle.rules.specs.declared.Entry.{Entry}
-use Rattle.visible.specs.Bare.{bare}
+use Rattle.rules.specs.Bare.{bare}
 use Rattle.lent.specs.Entries.{none}
 use Rattle.area.specs.Area.{entriesIn}
 use Rattle.area.specs.declared.Area.{Area}

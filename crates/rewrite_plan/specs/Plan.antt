@@ -11,7 +11,7 @@ use Rattle.rules.specs.Limits.{entriesMax}
 use Rattle.rules.specs.Span.{Span, isDelete}
 use Rattle.rules.specs.Sees.{upTo}
 use Rattle.rules.specs.Hides.{hidden}
-use Rattle.visible.specs.Bare.{bare}
+use Rattle.rules.specs.Bare.{bare}
 use Rattle.area.specs.Area.{entriesIn}
 use Rattle.area.specs.declared.Area.{Area}
 use Rattle.rewrite_plan.specs.declared.Plan.{Plan}

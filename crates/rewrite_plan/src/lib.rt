@@ -13,7 +13,7 @@ ghost use mathlib.Core.Bool.{not, _&&_};
 ghost use lib.Dec.{leb, eqb};
 ghost use Rattle.rules.specs.Rewrite.{hasEpoch, skips as skipping};
 ghost use Rattle.rules.specs.Top.{covers};
-ghost use Rattle.visible.specs.Bare.{bareSpan};
+ghost use Rattle.rules.specs.Bare.{bareSpan};
 ghost use Rattle.visible.specs.Passes.{asTop};
 ghost use Rattle.rewrite_plan.specs.Plan.{spansIn, planOf, rollEpoch, rollEpochs, purgeEpoch, purgeEpochs};
 

@@ -9,6 +9,7 @@ pub mod Append
 pub mod Sees
 pub mod Hides
 pub mod Top
+pub mod Bare
 pub mod Rewrite
 pub mod Bitmap
 pub mod Store

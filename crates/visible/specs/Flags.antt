@@ -6,7 +6,7 @@ use mathlib.Core.List.{List}
 use Prim.Native.Nat.{ℕ}
 use Rattle.rules.specs.declared.Entry.{Entry}
 use Rattle.rules.specs.Hides.{flags}
-use Rattle.visible.specs.Bare.{bare}
+use Rattle.rules.specs.Bare.{bare}
 
 unfoldable pub flagsOf : (ℕ → Bool) → (ℕ → Bool) → List Entry → List Bool
 flagsOf sees applies es = flags sees applies (bare 0 es)

@@ -1,5 +1,4 @@
 pub mod View
-pub mod Bare
 pub mod Flags
 pub mod Passes
 pub mod Scan

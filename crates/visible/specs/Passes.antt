@@ -8,7 +8,7 @@ use Rattle.rules.specs.Top.{Top as Greatest, flagsBy}
 use Rattle.visible.specs.declared.View.{View}
 use Rattle.visible.specs.declared.delete.Top.{Top}
 use Rattle.visible.specs.View.{seesView}
-use Rattle.visible.specs.Bare.{bare}
+use Rattle.rules.specs.Bare.{bare}
 
 -- the greatest applied delete as rules has it
 abbrev pub asTop : Top → Greatest

@@ -12,7 +12,7 @@ ghost use lib.ListN.{take};
 ghost use Rattle.rules.specs.Limits.{entriesMax};
 ghost use Rattle.rules.specs.Top.{topDelete, topStep, covers};
 ghost use Rattle.visible.specs.View.{appliesView};
-ghost use Rattle.visible.specs.Bare.{bareSpan, bare};
+ghost use Rattle.rules.specs.Bare.{bareSpan, bare};
 ghost use Rattle.visible.specs.Passes.{asTop};
 
 // Its epoch, and one more than the index of its last entry; both 0 with none.

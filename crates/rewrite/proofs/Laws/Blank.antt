@@ -1,4 +1,4 @@
--- What a rewrite decides goes by the number of words alone. Definitions: specs/Bare.antt, specs/Plan.antt,
+-- What a rewrite decides goes by the number of words alone. Definitions: rules' specs/Bare.antt, specs/Plan.antt,
 -- specs/Kept.antt.
 -- In order: tests; plans; kept; joined; entries and how many words. Elsewhere: blank spans (visible's Laws/Flags.antt).
 -- Assumes nothing.

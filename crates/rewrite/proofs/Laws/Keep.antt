@@ -18,7 +18,7 @@ use Rattle.rules.specs.Span.{Span, isDelete, entriesOf, wordsOf}
 use Rattle.rules.specs.declared.Entry.{Entry}
 use Rattle.rules.proofs.Laws.Span.{wordsOf-append}
 use Rattle.rules.proofs.Laws.Rewrite.{joins}
-use Rattle.visible.specs.Bare.{bareSpan}
+use Rattle.rules.specs.Bare.{bareSpan}
 use Rattle.lent.specs.Entries.{none}
 use Rattle.rewrite.specs.Kept.{renewed}
 use Rattle.rewrite.specs.Passes.{joinsLast, stepped}

@@ -15,7 +15,7 @@ use Rattle.rules.specs.Span.{Span}
 use Rattle.rules.specs.Rewrite.{joined}
 use Rattle.rules.specs.declared.Entry.{Entry}
 use Rattle.rules.proofs.Laws.Rewrite.{Apart, joined-apart}
-use Rattle.visible.specs.Bare.{bareSpan, bare}
+use Rattle.rules.specs.Bare.{bareSpan, bare}
 use Rattle.lent.specs.Entries.{none}
 use Rattle.rewrite.specs.Kept.{renewed, kept, endsFit, keptOf}
 use Rattle.rewrite.specs.Passes.{stepped}

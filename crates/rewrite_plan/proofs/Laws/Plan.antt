@@ -18,7 +18,7 @@ use Rattle.rules.specs.declared.Entry.{Entry}
 use Rattle.rules.specs.Top.{topDelete, covers}
 use Rattle.rules.proofs.Laws.TopDelete.{hidden-top}
 use Rattle.area.specs.declared.Area.{Area}
-use Rattle.visible.specs.Bare.{bareSpan, bare}
+use Rattle.rules.specs.Bare.{bareSpan, bare}
 use Rattle.lent.specs.Entries.{none}
 use Rattle.area.specs.Area.{entriesIn}
 use Rattle.rewrite_plan.specs.Plan.{spansIn, rollEpoch, rollEpochs, purgeEpoch, purgeEpochs}

@@ -9,7 +9,7 @@ use lib.Dec.{leb, eqb}
 use Rattle.lists.specs.Lists.{anyOf, allOf}
 use Rattle.rules.specs.declared.Entry.{Entry}
 use Rattle.rules.specs.Rewrite.{hasEpoch, skips}
-use Rattle.visible.specs.Bare.{bare}
+use Rattle.rules.specs.Bare.{bare}
 
 abbrev pub isOf : ℕ → Entry → Bool
 isOf i e = eqb (e .epoch) i

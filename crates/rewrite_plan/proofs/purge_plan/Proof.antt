@@ -11,7 +11,7 @@ use Rattle.rules.specs.Sees.{upTo}
 use Rattle.rules.specs.Top.{Top, topDelete, covers}
 use Rattle.lent.specs.Entries.{none}
 use Rattle.area.proofs.Laws.Area.{area-length, entries-used}
-use Rattle.visible.specs.Bare.{bareSpan}
+use Rattle.rules.specs.Bare.{bareSpan}
 use Rattle.visible.specs.View.{appliesView}
 use Rattle.visible.specs.Passes.{asTop}
 use Rattle.rewrite_plan.specs.Plan.{spansIn, purgeEpoch, purgeEpochs}

@@ -18,7 +18,7 @@ use Rattle.rules.proofs.Laws.Span.{end-ok, endsOk-le, words-spans}
 use Rattle.rules.proofs.Laws.Hides.{length-flags}
 use Rattle.rules.specs.Top.{topDelete, flagsBy}
 use Rattle.rules.proofs.Laws.TopDelete.{flags-top}
-use Rattle.visible.specs.Bare.{bare}
+use Rattle.rules.specs.Bare.{bare}
 use Rattle.visible.specs.Flags.{flagsOf}
 
 -- ---- flags go by the words' number alone

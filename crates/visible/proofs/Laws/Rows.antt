@@ -17,7 +17,7 @@ use Rattle.rules.specs.declared.Entry.{Entry}
 use Rattle.rules.specs.WellFormed.{endsOk}
 use Rattle.rules.proofs.Laws.Span.{EndOk, end-ok, endsOk-le}
 use Rattle.rules.specs.Top.{Top, covers, flagsBy}
-use Rattle.visible.specs.Bare.{bare}
+use Rattle.rules.specs.Bare.{bare}
 
 -- ---- one more flag of a fill
 

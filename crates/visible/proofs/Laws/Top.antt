@@ -14,7 +14,7 @@ use borrow.Author.Tests.{ltb-true, ltb-false, eqb-true, eqb-false}
 use Rattle.lists.proofs.Laws.Bools.{split}
 use Rattle.rules.specs.declared.Entry.{Entry}
 use Rattle.rules.specs.Top.{Top, topStep, topFrom, covers}
-use Rattle.visible.specs.Bare.{bareSpan, bare}
+use Rattle.rules.specs.Bare.{bareSpan, bare}
 
 leb-or : (j e : ℕ) → leb j e ≡ ltb j e || eqb j e
 leb-or j e = split (ltb j e)

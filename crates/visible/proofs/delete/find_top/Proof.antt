@@ -8,7 +8,7 @@ use lib.ListN.{length, take, drop, getD}
 use Rattle.rules.specs.Limits.{entriesMax}
 use Rattle.rules.specs.Top.{topFrom, topDelete}
 use Rattle.visible.specs.View.{appliesView}
-use Rattle.visible.specs.Bare.{bare}
+use Rattle.rules.specs.Bare.{bare}
 use Rattle.lent.specs.Entries.{none}
 use Rattle.visible.specs.Passes.{asTop}
 use Rattle.lists.proofs.Laws.Places.{used-next, used-end}

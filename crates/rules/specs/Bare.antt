@@ -1,12 +1,12 @@
 -- The entries of an area as spans, whatever the words: what is shown and what a rewrite keeps needs only their
 -- number. 01 "Lots".
--- In order: bareSpan, bare. Laws: proofs/Laws.
+-- In order: bareSpan, bare.
 -- Assumes nothing.
 use mathlib.Core.List.{List, [], _∷_}
 use Prim.Native.Nat.{ℕ, _-_}
 use lib.ListN.{replicate}
 use Rattle.rules.specs.declared.Entry.{Entry}
 use Rattle.rules.specs.Span.{Span}
 
 -- an entry with k rows, all 0
 abbrev pub bareSpan : ℕ → Entry → Span
