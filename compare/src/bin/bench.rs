@@ -1,8 +1,9 @@
-//! Times the proved store beside the model: each call, by the static library, on an empty and on a full store, and the
-//! session program. The same input, both built for release, one thread, caches warm. Prints the best of
-//! nine runs, the cost of reading the clock included.
+//! Times the proved store beside the model: each call, by the static library, on an empty store, on one that is all but
+//! full with short entries, and on one with long entries; and the session program. All calls are accepted ones. The same
+//! input, both built for release, one thread, caches warm; each figure is the best of nine runs, the cost of reading the
+//! clock included. The ratio is how many times as fast as the model the proved store is; the last line is the worst.
 
-use compare::{call, numbers};
+use compare::{by_library, call, lent_by, numbers, told, Books};
 use model::call::Call;
 use model::histories::{profile, Lines};
 use model::store::Store;
@@ -16,29 +17,49 @@ const RUNS: usize = 9;
 const TURNS: u32 = 2_000;
 const LINES: usize = 200_000;
 
-/// Eight lots of 512 rows in 64 entries by the loads 1, 2 and 5 in turn, 31 open loads, 32 pages; LSE is 2.
-fn full() -> Store {
+/// An open load and an open page on it.
+const LOAD: u64 = 5;
+const PAGE: u64 = 1;
+
+fn run(store: &mut Store, call: Call) {
+    assert_eq!(numbers(&call.run(store, &mut [])).0, 0, "{call:?}");
+}
+
+fn empty() -> Store {
+    let mut store = Store::new(LOAD);
+    run(&mut store, Call::Begin);
+    run(&mut store, Call::Open { epoch: 0 });
+    store
+}
+
+/// Eight lots of `count` entries of `rows` rows each, by the loads 1, 2 and 5 in turn; 31 open loads and 31 pages, so that
+/// one more of each begins; LSE is 2. In lot 0 is room for an entry and eight rows.
+fn laden(count: u64, rows: usize) -> Store {
     let mut store = Store::new(1);
-    let run = |store: &mut Store, call: Call| assert_eq!(numbers(&call.run(store, &mut [])).0, 0, "{call:?}");
-    for _ in 0..5 {
+    for _ in 0..LOAD {
         run(&mut store, Call::Begin);
     }
-    for turn in 0..64u64 {
+    for turn in 0..count {
         for partition in 0..8 {
-            let epoch = [1, 2, 5][turn as usize % 3];
-            run(&mut store, Call::Append { epoch, partition, rows: vec![turn; 8] });
+            let epoch = [1, 2, LOAD][turn as usize % 3];
+            run(&mut store, Call::Append { epoch, partition, rows: vec![turn; rows] });
         }
     }
-    for epoch in 1..=4 {
+    for partition in 1..8 {
+        let left = 512 - store.manager.partitions.at[partition as usize].rows as usize;
+        let epoch = [1, 2, LOAD][count as usize % 3];
+        run(&mut store, Call::Append { epoch, partition, rows: vec![count; left] });
+    }
+    for epoch in 1..LOAD {
         run(&mut store, Call::Commit { epoch });
     }
-    for _ in 0..32 {
+    for _ in 0..31 {
         run(&mut store, Call::Open { epoch: 2 });
     }
     for _ in 0..30 {
         run(&mut store, Call::Begin);
     }
-    // 01 holds LSE while a load has an epoch at or below it in its deps, so the first 4 are settled before the others begin.
+    // LSE is held while a load has an epoch at or below it in its deps: load 5 began before 1 to 4 were closed.
     store.manager.clock.lse = 2;
     for load in &mut store.manager.rw.at {
         let kept: Vec<u64> = load.deps[..load.deps_count as usize].iter().copied().filter(|&dep| dep > 4).collect();
@@ -50,16 +71,14 @@ fn full() -> Store {
     store
 }
 
-/// The least mean of a call in nanoseconds. The store is as it was before each call: what it wrote is undone, untimed.
-fn best(store: &Store, mut call: impl FnMut(&mut Store)) -> f64 {
-    let mut used = store.clone();
+/// The least mean of a call in nanoseconds, each on the state as it was: what the call before wrote is undone, untimed.
+fn best<S: Clone>(state: &S, mut undo: impl FnMut(&mut S, &S), mut call: impl FnMut(&mut S)) -> f64 {
+    let mut used = state.clone();
     let mut least = f64::MAX;
     for _ in 0..RUNS {
         let mut spent = Duration::ZERO;
         for _ in 0..TURNS {
-            used.manager = store.manager;
-            used.rows.copy_from_slice(&store.rows);
-            used.entries.copy_from_slice(&store.entries);
+            undo(&mut used, state);
             let start = Instant::now();
             call(&mut used);
             spent += start.elapsed();
@@ -69,32 +88,60 @@ fn best(store: &Store, mut call: impl FnMut(&mut Store)) -> f64 {
     least
 }
 
-/// The proved call and the model's, in nanoseconds; and the number that both answer.
-fn timed(store: &Store, one: &Call) -> (u64, f64, f64) {
-    let mut bitmap = one.lent_bitmap();
-    let number = call(one, &mut store.clone(), &mut bitmap).number;
-    assert_eq!(numbers(&one.run(&mut store.clone(), &mut bitmap)).0, number);
-    let by_proof = best(store, |used| {
-        let reply = call(black_box(one), used, &mut bitmap);
-        black_box(&reply);
-    });
-    let by_model = best(store, |used| {
-        black_box(numbers(&black_box(one).run(used, &mut bitmap)));
-    });
-    (number, by_proof, by_model)
+fn undone(used: &mut Store, store: &Store) {
+    used.manager = store.manager;
+    used.rows.copy_from_slice(&store.rows);
+    used.entries.copy_from_slice(&store.entries);
 }
 
-fn calls(store: &str, on: &Store, list: &[Call]) {
-    println!("{:<44} {:>8} {:>12} {:>12}", store, "answer", "proved", "model");
-    for one in list {
-        let (number, proved, model) = timed(on, one);
-        let mut name = format!("{one:?}");
-        name.truncate(40);
-        println!("  {name:<42} {number:>8} {proved:>9.0} ns {model:>9.0} ns");
+/// The proved call and the model's, in nanoseconds. Both accept it and leave the same store.
+fn timed(store: &Store, one: &Call) -> (f64, f64) {
+    let books = Books::of(&store.manager);
+    let mut bitmap = one.lent_bitmap();
+    let (mut proved, mut plain) = (store.clone(), store.clone());
+    assert_eq!(told(&by_library(one, &mut proved, &mut bitmap)), numbers(&one.run(&mut plain, &mut bitmap)));
+    assert_eq!((numbers(&one.run(&mut store.clone(), &mut bitmap)).0, proved == plain), (0, true), "{one:?}");
+    let by_proof = best(store, undone, |used| {
+        let reply = call(black_box(one), black_box(&books), lent_by(used, &mut bitmap));
+        black_box(&reply);
+    });
+    let by_model = best(store, undone, |used| {
+        black_box(numbers(&black_box(one).run(used, &mut bitmap)));
+    });
+    (by_proof, by_model)
+}
+
+/// The worst ratio so far, and of what.
+struct Worst {
+    ratio: f64,
+    what: String,
+}
+
+impl Worst {
+    fn line(&mut self, name: &str, what: &str, unit: &str, proved: f64, model: f64) {
+        let ratio = model / proved;
+        println!("  {what:<42} {proved:>9.0} {unit} {model:>9.0} {unit} {ratio:>9.2}");
+        if ratio < self.ratio {
+            *self = Worst { ratio, what: format!("{name}: {what}") };
+        }
     }
 }
 
-/// Seconds that a program takes for these lines.
+fn head(name: &str) {
+    println!("{name:<44} {:>12} {:>12} {:>9}", "proved", "model", "ratio");
+}
+
+fn calls(name: &str, on: &Store, list: &[Call], worst: &mut Worst) {
+    head(name);
+    for one in list {
+        let (proved, model) = timed(on, one);
+        let mut what = format!("{one:?}");
+        what.truncate(42);
+        worst.line(name, &what, "ns", proved, model);
+    }
+}
+
+/// Milliseconds that a program takes for these lines.
 fn session(program: &str, input: &[u8]) -> std::io::Result<f64> {
     let mut least = f64::MAX;
     for _ in 0..RUNS {
@@ -104,37 +151,36 @@ fn session(program: &str, input: &[u8]) -> std::io::Result<f64> {
             stdin.write_all(input)?;
         }
         child.wait()?;
-        least = least.min(start.elapsed().as_secs_f64());
+        least = least.min(start.elapsed().as_secs_f64() * 1e3);
     }
     Ok(least)
 }
 
 fn main() -> std::io::Result<()> {
     let scan = |reader| Call::Scan { reader, partition: 0, lent: 64 };
-    let append = |count: u64| Call::Append { epoch: 5, partition: 0, rows: (0..count).collect() };
-    let mut empty = Store::new(5);
-    for call in [Call::Begin, Call::Open { epoch: 0 }] {
-        assert_eq!(numbers(&call.run(&mut empty, &mut [])).0, 0);
-    }
-    let both = [
+    let append = |count: u64| Call::Append { epoch: LOAD, partition: 0, rows: (0..count).collect() };
+    let list = [
         Call::New { start: 1 },
         Call::Begin,
         append(8),
-        append(512),
-        Call::Clear { epoch: 5, partition: 0 },
-        Call::Commit { epoch: 5 },
-        Call::Rollback { epoch: 5 },
+        Call::Clear { epoch: LOAD, partition: 0 },
+        Call::Commit { epoch: LOAD },
+        Call::Rollback { epoch: LOAD },
         Call::Open { epoch: 0 },
-        Call::Close { ticket: 1 },
-        scan(Reader::Rw(5)),
-        scan(Reader::Ro(1)),
+        Call::Close { ticket: PAGE },
+        scan(Reader::Rw(LOAD)),
+        scan(Reader::Ro(PAGE)),
         Call::MoveLse { target: 0 },
         Call::Purge { partition: 0 },
     ];
-    calls("an empty store", &empty, &both);
-    let store = full();
-    calls("a full store", &store, &both);
-    calls("a full store, the last load", &store, &[scan(Reader::Rw(35)), Call::Commit { epoch: 35 }]);
+    let last = [scan(Reader::Rw(35)), Call::Commit { epoch: 35 }, Call::Rollback { epoch: 35 }];
+    let mut worst = Worst { ratio: f64::MAX, what: String::new() };
+    calls("an empty store", &empty(), &list, &mut worst);
+    calls("an empty store, a full batch", &empty(), &[append(512)], &mut worst);
+    let short = laden(63, 8);
+    calls("a full store, 64 short entries a lot", &short, &list, &mut worst);
+    calls("the same, by its last load, of 30 deps", &short, &last, &mut worst);
+    calls("a full store, 4 long entries a lot", &laden(3, 168), &list, &mut worst);
 
     let Some(mixed) = profile("mixed") else { return Ok(()) };
     let mut made = Lines::new(1, mixed);
@@ -143,8 +189,10 @@ fn main() -> std::io::Result<()> {
         input.extend(made.next_line());
         input.push(b'\n');
     }
-    let proved = session("target/bin/session", &input)?;
-    let model = session("target/cargo/release/session", &input)?;
-    println!("a session of {LINES} lines: proved {proved:.3} s, model {model:.3} s, {:.2} times as fast", model / proved);
+    let name = "the session program";
+    head(name);
+    let (proved, model) = (session("target/bin/session", &input)?, session("target/cargo/release/session", &input)?);
+    worst.line(name, &format!("{LINES} lines"), "ms", proved, model);
+    println!("worst ratio {:.2}: {}", worst.ratio, worst.what);
     Ok(())
 }

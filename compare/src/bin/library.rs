@@ -1,8 +1,9 @@
 //! Runs the proved store's calls, by its static library, beside the model: on stores that histories made, on random
 //! well-formed stores that no history made, on stores spoilt in one field, and on areas of wrong lengths. Compared are the
-//! number, the values, and every word of the books, the areas and the bitmap at the end of each call.
+//! number, the values, the part that a purge answers with, and every word of the books, the areas and the bitmap at the
+//! end of each call. A number that names no call must be answered 255, and nothing may change.
 
-use compare::{call, numbers};
+use compare::{by_library, call_by_number, lent_by, live_part, numbers, told, Books, KINDS, UNKNOWN};
 use model::call::Call;
 use model::check::difference;
 use model::histories::{Calls, PROFILES};
@@ -18,26 +19,61 @@ const ROUNDS: u64 = 20_000;
 /// Calls on one store.
 const CALLS: u64 = 12;
 
-/// How often each number was answered.
-type Tally = [u64; 11];
+/// How often each number was answered, and how many rows the parts had that purges answered with.
+#[derive(Default)]
+struct Tally {
+    numbers: [u64; 11],
+    part_rows: usize,
+}
 
 /// Runs one call on both, and says where they differ.
 fn differs(one: &Call, store: &mut Store, tally: &mut Tally) -> Result<(), String> {
     let mut proved = store.clone();
     let mut bitmap = one.lent_bitmap();
     let mut expected_bitmap = bitmap.clone();
-    let reply = call(one, &mut proved, &mut bitmap);
-    let expected = numbers(&one.run(store, &mut expected_bitmap));
-    proved.manager = reply.state;
-    tally[reply.number.min(10) as usize] += 1;
-    if (reply.number, reply.value, reply.second) != expected {
-        return Err(format!("answers {} {} {}, and the model {expected:?}", reply.number, reply.value, reply.second));
+    let reply = by_library(one, &mut proved, &mut bitmap);
+    let answer = one.run(store, &mut expected_bitmap);
+    let expected = numbers(&answer);
+    tally.numbers[reply.number.min(10) as usize] += 1;
+    tally.part_rows += reply.count;
+    if told(&reply) != expected {
+        return Err(format!("answers {:?}, and the model {expected:?}", told(&reply)));
     }
     if proved != *store {
         return Err(difference(&proved, store));
     }
     if bitmap != expected_bitmap {
         return Err("the bitmaps differ".to_string());
+    }
+    let part = proved.rows.get(reply.from..reply.from + reply.count);
+    if part != Some(live_part(&answer, store)) {
+        return Err(format!("answers {} rows from {} on, and the model another part", reply.count, reply.from));
+    }
+    Ok(())
+}
+
+/// A number that names no call, with any arguments.
+fn unknown_differs(rng: &mut Rng, store: &Store) -> Result<(), String> {
+    let kind = match rng.below(3) {
+        0 => KINDS,
+        1 => u64::MAX,
+        _ => KINDS + rng.below(1000),
+    };
+    let mut proved = store.clone();
+    let lent = [0xa5; 64];
+    let mut bitmap = lent;
+    let books = Books::of(&store.manager);
+    let (first, second) = (rng.below(10), rng.below(10));
+    let reply = call_by_number(kind, first, second, &[1, 2, 3], &books, lent_by(&mut proved, &mut bitmap));
+    proved.manager = reply.books.manager();
+    if (told(&reply), reply.from, reply.count) != ((UNKNOWN, 0, 0), 0, 0) {
+        return Err(format!("kind {kind} answers {:?}", told(&reply)));
+    }
+    if proved != *store {
+        return Err(difference(&proved, store));
+    }
+    if bitmap != lent {
+        return Err(format!("kind {kind} writes the bitmap"));
     }
     Ok(())
 }
@@ -72,13 +108,17 @@ fn wrong_length(rng: &mut Rng) -> Store {
 
 fn main() -> ExitCode {
     let rounds = std::env::args().nth(1).and_then(|word| word.parse().ok()).unwrap_or(ROUNDS);
-    let mut tally: Tally = [0; 11];
+    let mut tally = Tally::default();
     for round in 0..rounds {
         let profile = PROFILES[(round / 4) as usize % PROFILES.len()];
         let mut calls = Calls::new(round, profile);
         let mut store = store_for(round, &mut calls);
         // Calls are drawn for a well-formed store.
         let other = random_store(&mut calls.rng);
+        if let Err(what) = unknown_differs(&mut calls.rng, &store) {
+            println!("round {round}, {}: {what}", profile.name);
+            return ExitCode::FAILURE;
+        }
         for _ in 0..CALLS {
             let next = calls.next_call(if well_formed(&store) { &store } else { &other });
             if let Err(what) = differs(&next, &mut store, &mut tally) {
@@ -87,10 +127,19 @@ fn main() -> ExitCode {
             }
         }
     }
-    if let Some(number) = tally.iter().position(|&count| count == 0) {
+    if let Some(number) = tally.numbers.iter().position(|&count| count == 0) {
         println!("no call was answered {number}: the comparison is too weak");
         return ExitCode::FAILURE;
     }
-    println!("library: {} calls on {rounds} stores agree; by number {tally:?}", rounds * CALLS);
+    if tally.part_rows == 0 {
+        println!("no purge answered a row: the comparison is too weak");
+        return ExitCode::FAILURE;
+    }
+    println!(
+        "library: {} calls on {rounds} stores agree; by number {:?}; {} rows in parts; {rounds} unknown calls",
+        rounds * CALLS,
+        tally.numbers,
+        tally.part_rows
+    );
     ExitCode::SUCCESS
 }

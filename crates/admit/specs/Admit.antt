@@ -1,4 +1,4 @@
--- What every call on one partition asks first: 5, 1 and 2, in 01's order. 01 "Refusals".
+-- What every call on one partition asks first: 5 and 1, in 01's order. 01 "Refusals".
 -- In order: partitionOf, admitted, byAdmission.
 -- Assumes nothing.
 use mathlib.Core.Bool.{Bool, not, cond}
@@ -8,23 +8,21 @@ use lib.Dec.{leb}
 use Rattle.rules.specs.Limits.{partitionsMax}
 use Rattle.rules.specs.Store.{noPartition}
 use Rattle.rules.specs.declared.Refusal.{Refusal}
-use Rattle.rules.specs.declared.Refusal.the-variants.{UnknownPartition, NotOpen, Unsound}
+use Rattle.rules.specs.declared.Refusal.the-variants.{UnknownPartition, Unsound}
 use Rattle.rules.specs.declared.Partition.{Partition}
+use Rattle.rules.specs.declared.Partitions.{Partitions}
 use Rattle.rules.specs.declared.State.{State}
-use Rattle.lent.specs.declared.Table.{Table}
-use Rattle.admit.specs.Sound.{soundOf}
 use Rattle.admit.specs.declared.Admitted.{Admitted}
 use Rattle.admit.specs.declared.Admitted.the-variants.{To, Not}
 
 abbrev pub partitionOf : ℕ → State → Partition
 partitionOf p s = getD (s .partitions .at) p noPartition
 
-abbrev pub admitted : Bool → State → Table → ℕ → ℕ → ℕ → Admitted
-admitted isOpen s t n m p =
-    cond (not (soundOf s t n m)) (Not Unsound)
+abbrev pub admitted : Bool → Partitions → ℕ → Admitted
+admitted sound ps p =
+    cond (not sound) (Not Unsound)
     (cond (leb partitionsMax p) (Not UnknownPartition)
-    (cond (not isOpen) (Not NotOpen)
-    (To (partitionOf p s))))
+    (To (getD (ps .at) p noPartition)))
 
 -- f of the refusal, or g of the partition
 abbrev pub byAdmission : {A : Type 0} → (Refusal → A) → (Partition → A) → Admitted → A

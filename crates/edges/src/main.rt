@@ -5,7 +5,6 @@ use lent::Table;
 use libc::STDIN_FILENO;
 use libc::STDOUT_FILENO;
 use places::in_use;
-use replay::area_of;
 use replay::limits::ANSWER_MAX;
 use replay::limits::NUMBERS_MAX;
 use reply::ReplyWords;
@@ -16,7 +15,6 @@ use rules::ManagerCall;
 use rules::Reader;
 use rules::State;
 use rules::limits::ROWS_LENT;
-use rules::limits::ROWS_MAX;
 use session_text::Parsed;
 use session_text::print_line;
 
@@ -192,19 +190,6 @@ fn scan(
     }
 }
 
-// The words of an area, or all where it is not among them.
-fn area(rows: &[u64], at: usize) -> &[u64] {
-    let from = area::row_base(at);
-    if rows.len() < ROWS_MAX {
-        return rows;
-    }
-    if rows.len() - ROWS_MAX < from {
-        return rows;
-    }
-    let end = from + ROWS_MAX;
-    &rows[from..end]
-}
-
 // The rows in force, after a line that says how many.
 fn print_part(part: &[u64], out: &mut [u8]) -> usize {
     let n = part.len();
@@ -213,8 +198,6 @@ fn print_part(part: &[u64], out: &mut [u8]) -> usize {
 
 // A purge: whether it rewrote, and on a line of its own the rows in force.
 fn purge(state: State, table: Table, rows: &mut [u64], lot: u64, out: &mut [u8]) -> Said {
-    let old = area_of(state.partitions, lot);
-    let spare = state.partitions.spare;
     let none = [0u64; 0];
     let mut bitmap = [STALE; BYTES];
     let command = Command::Purge { partition: lot };
@@ -225,7 +208,7 @@ fn purge(state: State, table: Table, rows: &mut [u64], lot: u64, out: &mut [u8])
     let value = [told[0]];
     let size = print_line(b'p', reply.number, &value, out);
     send(out, size);
-    let live = live_part::in_force(area(rows, old), area(rows, spare), answer);
+    let live = store::part::live_rows(state, rows, lot, answer);
     let more = print_part(live, out);
     let s = done.state;
     let t = done.table;

@@ -10,11 +10,15 @@ use rules::RoTxns;
 use rules::RwTxn;
 use rules::RwTxns;
 use rules::State;
+use rules::limits::DEPS_MAX;
 use rules::limits::PARTITIONS_MAX;
 use rules::limits::WRITERS_MAX;
 
 // The last place of a transaction.
 const LAST_PLACE: usize = WRITERS_MAX - 1;
+
+// The last place of a dep of the first transaction.
+const LAST_DEP: usize = DEPS_MAX - 1;
 
 pub(crate) struct Poked {
     pub state: State,
@@ -56,34 +60,19 @@ fn clock(c: Clock, field: u64, value: u64) -> Clock {
 }
 
 fn writer(t: RwTxn, field: u64, value: u64) -> RwTxn {
-    let mut d = t.deps;
-    let mut epoch = t.epoch;
-    let mut waiting = t.waiting;
+    let mut u = t;
     match field {
-        40 => {
-            epoch = value;
-        }
         41 => {
-            waiting = value;
+            u.waiting = value;
         }
         42 => {
-            d.count = value as usize;
-        }
-        43 => {
-            d.at[0] = value;
-        }
-        44 => {
-            epoch = value;
+            u.deps = value as usize;
         }
         _ => {
-            d.at[30] = value;
+            u.epoch = value;
         }
     }
-    RwTxn {
-        epoch: epoch,
-        waiting: waiting,
-        deps: d,
-    }
+    u
 }
 
 fn writers(w: RwTxns, field: u64, value: u64) -> RwTxns {
@@ -153,6 +142,14 @@ fn manager(m: Manager, field: u64, value: u64) -> Manager {
     if field < 6 {
         let ps = readers(n.readers, field, value);
         n.readers = ps;
+        return n;
+    }
+    if field == 43 {
+        n.deps[0] = value;
+        return n;
+    }
+    if field == 45 {
+        n.deps[LAST_DEP] = value;
         return n;
     }
     if field < 50 {

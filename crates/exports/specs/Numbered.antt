@@ -1,24 +1,41 @@
 -- Calls and replies as numbers, for callers in C and Rust.
--- In order: commandOf, repliedOf, Answers.
+-- In order: commandOf, onPurge, the place of a part, repliedOf, Ending (what a numbered call is to leave), Answers.
+-- Laws: proofs/Laws/Numbered.antt.
 -- Assumes nothing.
 use mathlib.Core.Path.{_≡_}
 use mathlib.Core.Bool.{cond}
-use mathlib.Core.List.{List}
-use Prim.Native.Nat.{ℕ}
-use lib.Dec.{eqb}
+use mathlib.Core.List.{List, []}
+use Prim.Native.Nat.{ℕ, _+_, _≤_}
+use lib.Dec.{eqb, leb}
+use lib.ListN.{length, getD}
+use Rattle.lists.specs.Lists.{part}
+use Rattle.rules.specs.Limits.{partitionsMax, rowsMax}
 use Rattle.rules.specs.Answers.{replyOf, firstValue, secondValue}
-use Rattle.rules.specs.Step.{Outcome}
+use Rattle.rules.specs.Store.{Store, noPartition}
+use Rattle.rules.specs.Step.{Outcome, step, callOf}
+use Rattle.rules.specs.declared.Answer.{Answer}
 use Rattle.rules.specs.declared.Command.{Command}
 use Rattle.rules.specs.declared.Command.the-variants.{Create, Manage, Append, Clear, RollBack, Scan, Purge}
 use Rattle.rules.specs.declared.ManagerCall.the-variants.{Begin, Commit, BeginRo, EndRo, AdvanceLse}
 use Rattle.rules.specs.declared.Reader.the-variants.{Rw, Ro}
 use Rattle.rules.specs.declared.Entry.{Entry}
+use Rattle.rules.specs.declared.Partitions.{Partitions}
+use Rattle.area.specs.Area.{baseOf}
 use Rattle.store.specs.Kept.{storeOf}
 use Rattle.store.specs.declared.Kept.{Kept}
 use Rattle.dispatch.specs.Dispatch.{bitmapLeft}
+use Rattle.exports.specs.declared.numbered.Numbers.{Numbers}
+use Rattle.exports.specs.declared.numbered.Place.{Place}
 use Rattle.exports.specs.declared.numbered.Replied.{Replied}
 
--- the call that a number names; 11 and above is purge
+-- how many kinds of calls there are, and what another is answered
+abbrev pub kinds : ℕ
+kinds = 12
+
+abbrev pub unknown : ℕ
+unknown = 255
+
+-- the call that a number names; that of an unknown one does nothing
 abbrev pub commandOf : ℕ → ℕ → ℕ → Command
 commandOf kind a b =
     cond (eqb kind 0) (Create a)
@@ -32,17 +49,75 @@ commandOf kind a b =
     (cond (eqb kind 8) (Scan (Rw a) b)
     (cond (eqb kind 9) (Scan (Ro a) b)
     (cond (eqb kind 10) (Manage (AdvanceLse a))
-    (Purge a)))))))))))
+    (cond (eqb kind 11) (Purge a) (Purge partitionsMax))))))))))))
 
--- 01's number, its first two values, and the books
-abbrev pub repliedOf : Kept → Replied
-repliedOf k = record { number = replyOf (k .answer) .number; value = firstValue (replyOf (k .answer));
-  second = secondValue (replyOf (k .answer)); state = k .state }
+-- where only a purge matters: f of it, d of another command
+abbrev pub onPurge : {A : Type 0} → Command → (ℕ → A) → A → A
+onPurge (Create s) f d = d
+onPurge (Manage c) f d = d
+onPurge (Append i p) f d = d
+onPurge (Clear i p) f d = d
+onPurge (RollBack i) f d = d
+onPurge (Scan r p) f d = d
+onPurge (Purge p) f d = f p
 
--- the numbers, the books and the lent areas at the end are those of step's outcome; the bitmap was lent as `lent`
--- and is `bytes` at the end
-abbrev pub Answers : Command → Outcome → Replied → List ℕ → List Entry → List ℕ → List ℕ → Type 0
-Answers c out r rows entries lent bytes =
-    (r .number ≡ replyOf (out .answer) .number) × (r .value ≡ firstValue (replyOf (out .answer)))
-    × (r .second ≡ secondValue (replyOf (out .answer))) × (storeOf (r .state) rows entries ≡ out .store)
-    × (bytes ≡ bitmapLeft c out lent)
+-- ---- the part in force, as rows of those lent
+
+abbrev pub nowhere : Place
+nowhere = record { from = 0; count = 0 }
+
+-- all rows of partition p, where a call of this number was accepted
+abbrev pub placeIn : ℕ → Partitions → ℕ → Place
+placeIn number ps p =
+    let q = getD (ps .at) p noPartition in
+    cond (eqb number 0) (record { from = baseOf rowsMax (q .area); count = q .rows }) nowhere
+
+abbrev pub placeOf : Command → ℕ → Partitions → Place
+placeOf c number ps = onPurge c (placeIn number ps) nowhere
+
+-- ---- a reply
+
+abbrev pub numbersOf : ℕ → Command → Answer → Partitions → Numbers
+numbersOf kind c a ps =
+    let reply = replyOf a in let place = placeOf c (reply .number) ps in
+    cond (leb kinds kind)
+    (record { number = unknown; value = 0; second = 0; from = 0; count = 0 })
+    (record { number = reply .number; value = firstValue reply; second = secondValue reply; from = place .from;
+      count = place .count })
+
+abbrev pub repliedOf : ℕ → Command → Kept → Replied
+repliedOf kind c k =
+    let n = numbersOf kind c (k .answer) (k .state .partitions) in
+    record { number = n .number; value = n .value; second = n .second; from = n .from; count = n .count;
+      state = k .state }
+
+-- ---- what a numbered call is to leave
+
+pub record Ending : Type 0 where
+  pub number : ℕ
+  pub value : ℕ
+  pub second : ℕ
+  pub store : Store
+  pub bitmap : List ℕ
+  pub live : List ℕ
+
+-- that of step, in 01's numbers
+abbrev pub knownEnding : Command → Outcome → List ℕ → Ending
+knownEnding c out lent = record { number = replyOf (out .answer) .number; value = firstValue (replyOf (out .answer));
+  second = secondValue (replyOf (out .answer)); store = out .store; bitmap = bitmapLeft c out lent; live = out .live }
+
+-- a refusal that is none of 01's: nothing changes
+abbrev pub unknownEnding : Store → List ℕ → Ending
+unknownEnding st lent = record { number = unknown; value = 0; second = 0; store = st; bitmap = lent; live = [] }
+
+abbrev pub endingOf : ℕ → ℕ → ℕ → List ℕ → List ℕ → Store → Ending
+endingOf kind a b batch lent st =
+    let c = commandOf kind a b in
+    cond (leb kinds kind) (unknownEnding st lent) (knownEnding c (step (callOf c batch lent) st) lent)
+
+-- the numbers, the books, the lent areas and the bitmap at the end are those; the part lies among the rows
+abbrev pub Answers : Ending → Replied → List ℕ → List Entry → List ℕ → Type 0
+Answers e r rows entries bytes =
+    (r .number ≡ e .number) × (r .value ≡ e .value) × (r .second ≡ e .second)
+    × (storeOf (r .state) rows entries ≡ e .store) × (bytes ≡ e .bitmap)
+    × (part (r .from) (r .count) rows ≡ e .live) × (r .from + r .count ≤ length rows)

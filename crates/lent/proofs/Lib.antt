@@ -1,3 +1,3 @@
-pub mod Lists
 pub mod Saved
+pub mod Turned
 pub mod Types

@@ -1,8 +1,8 @@
 // Entries as they are lent: a slice of small structs. This is the one file that knows how entries lie in memory.
-// 01 "Where to use each form": thin read and write functions only.
+// 01 "Where to use each form": entries are a lent slice of small structs, with thin functions that append and read.
 ghost use mathlib.Core.Path.{_≡_};
 ghost use lib.ListN.{length, set, getD};
-ghost use Rattle.lent.specs.Entries.{none, filled0, filled, tableOf};
+ghost use Rattle.lent.specs.Entries.{none, movedEnd, filled0};
 use rules::Entry;
 use rules::limits::ENTRIES_LENT;
 
@@ -11,8 +11,8 @@ pub struct Table {
     pub at: [Entry; ENTRIES_LENT],
 }
 
-// The entry at i, or the blank one past the end.
-pub fn entry_at(entries: &[Entry], i: usize) -> Entry
+// Reads the entry at i; past the end it is the blank one.
+pub fn read_entry(entries: &[Entry], i: usize) -> Entry
     ensures { λ r. ⌜ r ≡ getD (now (entries .entry)) i none ⌝ }
 {
     if i < entries.len() {
@@ -41,24 +41,20 @@ pub fn to_table(a: [Entry; ENTRIES_LENT]) -> Table
     Table { at: a }
 }
 
-// The first 576 entries, blank where there are fewer.
-pub fn load_all(entries: &[Entry]) -> Table
-    ensures { λ r. ⌜ r ≡ tableOf (now (entries .entry)) ⌝ }
+// Appends an entry at the place behind those that stand, or nowhere past the end. A rewrite appends a whole area so.
+pub fn append_entry(entries: &mut [Entry], place: usize, e: Entry)
+    ensures { λ _. ⌜ now (entries .exit) ≡ set (now (entries .entry)) place e ⌝ }
 {
-    let mut a = blank();
-    let mut i = 0;
-    while i < ENTRIES_LENT {
-        a[i] = entry_at(entries, i);
-        i = i + 1;
+    if place < entries.len() {
+        entries[place] = e;
     }
-    to_table(a)
 }
 
-// Writes the entry at i, or nothing past the end.
-pub fn put_entry(entries: &mut [Entry], i: usize, e: Entry)
-    ensures { λ _. ⌜ now (entries .exit) ≡ set (now (entries .entry)) i e ⌝ }
+// Moves the end of the entry at i; past the end there is none.
+pub fn move_end(entries: &mut [Entry], i: usize, end: usize)
+    ensures { λ _. ⌜ now (entries .exit) ≡ movedEnd (now (entries .entry)) i end ⌝ }
 {
     if i < entries.len() {
-        entries[i] = e;
+        entries[i].end = end;
     }
 }

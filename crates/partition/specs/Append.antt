@@ -42,11 +42,13 @@ placed n q row e = record {
 abbrev pub grows : ℕ → Entry → Bool
 grows i e = not (eqb (e .mark) 1) && eqb (e .epoch) i
 
+-- the last entry of partition q, where it has one
+abbrev pub lastOf : List Entry → Partition → Entry
+lastOf entries q = getD entries (entriesMax * q .area + (q .entries - 1)) none
+
 -- how many of the partition's entries stay as they are: all, or all but a last one that grows
-unfoldable pub keptIn : List Entry → Partition → ℕ → ℕ
-keptIn entries q i =
-    cond (ltb 0 (q .entries) && grows i (getD entries (entriesMax * q .area + (q .entries - 1)) none))
-    (q .entries - 1) (q .entries)
+unfoldable pub keptIn : Entry → Partition → ℕ → ℕ
+keptIn last q i = cond (ltb 0 (q .entries) && grows i last) (q .entries - 1) (q .entries)
 
 -- k rows behind the last, with an entry behind the first n
 unfoldable pub appendAt : ℕ → Partition → ℕ → ℕ → Plan
@@ -55,10 +57,10 @@ appendAt n q i k = let full = fullIf (ltb (rowsMax - q .rows) k) (leb entriesMax
     (placed n q (rowsMax * q .area + q .rows) (record { epoch = i; end = q .rows + k; mark = 0 }))
 
 -- words out of range are taken for a full partition; a batch of no rows adds nothing
-unfoldable pub appendPlan : List Entry → Partition → ℕ → ℕ → Plan
-appendPlan entries q i k =
+unfoldable pub appendPlan : Entry → Partition → ℕ → ℕ → Plan
+appendPlan last q i k =
     cond (not (inRange q)) (stays (fullIf true true) q)
-    (cond (eqb k 0) (stays (fullIf false false) q) (appendAt (keptIn entries q i) q i k))
+    (cond (eqb k 0) (stays (fullIf false false) q) (appendAt (keptIn last q i) q i k))
 
 -- ---- clear: always one entry, its end the row count
 

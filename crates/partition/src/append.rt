@@ -1,7 +1,6 @@
 // What append and clear write: one entry, and a batch of rows behind the partition's last. 01 "Lots", Append, Clear.
 use crate::Full;
 use crate::Plan;
-use lent::Table;
 use rules::Entry;
 use rules::Partition;
 use rules::limits::AREAS_MAX;
@@ -94,9 +93,10 @@ fn append_at(n: usize, q: Partition, i: u64, k: usize) -> Plan
     place(n, q, ROWS_MAX * q.area + q.rows, entry)
 }
 
-// What an append of k rows by transaction i writes. Words out of range are taken for a full partition.
-pub fn append_plan(t: Table, q: Partition, i: u64, k: usize) -> Plan
-    ensures { λ r. ⌜ r ≡ appendPlan (t .at) q i k ⌝ }
+// What an append of k rows by transaction i writes, where `last` is the partition's last entry, if it has one. Words
+// out of range are taken for a full partition.
+pub fn append_plan(last: Entry, q: Partition, i: u64, k: usize) -> Plan
+    ensures { λ r. ⌜ r ≡ appendPlan last q i k ⌝ }
 {
     if !in_range(q) {
         return stay(q, true, true);
@@ -108,8 +108,6 @@ pub fn append_plan(t: Table, q: Partition, i: u64, k: usize) -> Plan
     if n == 0 {
         return append_at(0, q, i, k);
     }
-    let area = q.area;
-    let last = t.at[ENTRIES_MAX * area + (n - 1)];
     if does_grow(last, i) {
         return append_at(n - 1, q, i, k);
     }

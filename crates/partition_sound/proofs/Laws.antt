@@ -1,2 +1,5 @@
 pub mod Areas
+pub mod Asked
+pub mod Pass
+pub mod Rest
 pub mod Sound

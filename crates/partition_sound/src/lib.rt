@@ -1,11 +1,9 @@
 // The part of 01's *sound* that is about lots. 01 "Refusals that come from the state", last paragraph.
-use areas::areas_ok;
-use lent::Table;
+use numbers::fill;
 use numbers::has;
 use places::in_use;
 use rules::Clock;
 use rules::Entry;
-use rules::Manager;
 use rules::Partition;
 use rules::Partitions;
 use rules::RwTxns;
@@ -17,11 +15,37 @@ ghost use mathlib.Core.Path.{_≡_};
 ghost use mathlib.Core.Bool.{_&&_};
 ghost use lib.Dec.{leb};
 ghost use Rattle.rules.specs.Limits.{rowsMax, entriesMax};
-ghost use Rattle.partition_sound.specs.Sound.{epochsOf, epochsWith, epochOkBy, follows, beforeFirst};
-ghost use Rattle.partition_sound.specs.Sound.{partitionsOk};
+ghost use Rattle.partition_sound.specs.Sound.{epochsOf, epochsWith, beforeFirst};
+ghost use Rattle.partition_sound.specs.Asked.{raised, askedOf, restAsked};
 
 mod areas;
 mod numbers;
+mod pass;
+mod rest;
+
+// Where a partition stands after an entry: that entry, whether all are well so far, and whether one was met whose epoch
+// lies above LCE.
+pub struct Last {
+    pub entry: Entry,
+    pub ok: bool,
+    pub above: bool,
+}
+
+// The epochs of the records, and LCE: up to there an epoch needs none.
+pub struct Held {
+    pub lce: u64,
+    pub at: [u64; WRITERS_MAX],
+    pub count: usize,
+}
+
+// What the test of the lots asks of the books: the clock, with LCE raised to EC where each epoch between has a record;
+// the epochs of the records; the partitions.
+pub struct Asked {
+    pub clock: Clock,
+    pub epochs: [u64; WRITERS_MAX],
+    pub count: usize,
+    pub partitions: Partitions,
+}
 
 // The epochs of the read-write transactions (01: loads) that have a record.
 struct Epochs {
@@ -43,45 +67,18 @@ fn epochs_of(ts: RwTxns) -> Epochs
     Epochs { at: at, count: n }
 }
 
-// An epoch that rows may have: 1 to EC - 1, and above LCE only with a record.
-fn epoch_ok(c: Clock, epochs: &[u64], j: u64) -> bool
-    ensures { λ r. ⌜ r ≡ epochOkBy c (now (epochs .entry)) j ⌝ }
+// An epoch above LCE is then looked up only where one between LCE and EC has no record.
+fn raise(c: Clock, epochs: &[u64]) -> Clock
+    ensures { λ r. ⌜ r ≡ raised c (now (epochs .entry)) ⌝ }
 {
-    if j < 1 {
-        return false;
+    if !fill(epochs, c.lce, c.ec) {
+        return c;
     }
-    if c.ec <= j {
-        return false;
+    Clock {
+        ec: c.ec,
+        lce: c.ec,
+        lse: c.lse,
     }
-    if j <= c.lce {
-        return true;
-    }
-    has(epochs, j)
-}
-
-// Entry e may stand after entry d.
-fn may_follow(c: Clock, epochs: &[u64], d: Entry, e: Entry) -> bool
-    ensures { λ r. ⌜ r ≡ follows c (now (epochs .entry)) d e ⌝ }
-{
-    if 1 < e.mark {
-        return false;
-    }
-    if !epoch_ok(c, epochs, e.epoch) {
-        return false;
-    }
-    if e.end < d.end {
-        return false;
-    }
-    if e.mark == 1 {
-        return true;
-    }
-    if e.end <= d.end {
-        return false;
-    }
-    if d.mark != 0 {
-        return true;
-    }
-    d.epoch != e.epoch
 }
 
 // At most 512 rows and 64 entries.
@@ -106,40 +103,43 @@ fn before_first() -> Entry
     }
 }
 
-// The lots' part of *sound*: the areas, and one pass over the entries in use of each partition.
-pub fn partitions_ok(m: Manager, ps: Partitions, t: Table) -> bool
-    ensures { λ r. ⌜ r ≡ partitionsOk m (t .at) ps ⌝ }
+// What is asked of books with this clock, these records and these partitions.
+pub fn ask(clock: Clock, ts: RwTxns, ps: Partitions) -> Asked
+    ensures { λ r. ⌜ r ≡ askedOf clock ts ps ⌝ }
 {
-    if !areas_ok(ps) {
-        return false;
-    }
-    let c = m.clock;
-    let es = epochs_of(m.writers);
+    let es = epochs_of(ts);
     let at = es.at;
-    let k = es.count;
-    let epochs = &at[..k];
+    let n = es.count;
+    let c = raise(clock, &at[..n]);
+    Asked {
+        clock: c,
+        epochs: at,
+        count: n,
+        partitions: ps,
+    }
+}
+
+// *sound* but for the manager: m rows are lent beside the entries. Two passes over the entries in use of each
+// partition, the second over none where no epoch lies above LCE.
+pub fn rest_ok(entries: &[Entry], m: usize, a: Asked) -> bool
+    ensures { λ r. ⌜ r ≡ restAsked (now (entries .entry)) m a ⌝ }
+{
+    let n = entries.len();
+    let clock = rest::clock_of(a);
+    let held = rest::held_of(a);
+    let places = rest::places_of(a);
+    let start = rest::start();
+    let mut ok = rest::begin(n, m, places);
     let mut p: usize = 0;
-    'each: while p < PARTITIONS_MAX {
-        let q = ps.at[p];
-        if !counts_ok(q) {
-            return false;
-        }
-        let base = area::entry_base(q.area);
-        let n = q.entries;
-        let mut last = before_first();
-        let mut i: usize = 0;
-        'entries: while i < n {
-            let e = t.at[base + i];
-            if !may_follow(c, epochs, last, e) {
-                return false;
-            }
-            last = e;
-            i += 1;
-        }
-        if last.end != q.rows {
-            return false;
-        }
+    while p < PARTITIONS_MAX {
+        let q = rest::place_of(places, p);
+        let from = rest::from_of(q);
+        let to = rest::to_of(q);
+        let last = pass::pass(entries, clock, start, from, to);
+        let until = rest::until(last, from, to);
+        let sure = pass::look_up(entries, held, true, from, until);
+        ok = rest::judged(ok, q, last, sure);
         p += 1;
     }
-    true
+    ok
 }

@@ -1,7 +1,10 @@
 // Tests over a slice of numbers.
 ghost use mathlib.Core.Path.{_≡_};
+ghost use Prim.Native.Nat.{suc};
+ghost use lib.Dec.{eqb};
 ghost use Rattle.lists.specs.Lists.{elem, distinct};
 ghost use Rattle.partition_sound.specs.Areas.{allBelow};
+ghost use Rattle.partition_sound.specs.Asked.{fills};
 
 // x stands in xs.
 pub fn has(xs: &[u64], x: u64) -> bool
@@ -44,4 +47,31 @@ pub fn all_below(xs: &[u64], limit: u64) -> bool
         i += 1;
     }
     true
+}
+
+// xs are the numbers between lo and hi.
+pub fn fill(xs: &[u64], lo: u64, hi: u64) -> bool
+    ensures { λ r. ⌜ r ≡ fills lo hi (now (xs .entry)) ⌝ }
+{
+    let mut last = lo;
+    let mut i: usize = 0;
+    while i < xs.len() {
+        let x = xs[i];
+        if !follows(last, x) {
+            return false;
+        }
+        last = x;
+        i += 1;
+    }
+    follows(last, hi)
+}
+
+// y is one more than x.
+fn follows(x: u64, y: u64) -> bool
+    ensures { λ r. ⌜ r ≡ eqb (suc x) y ⌝ }
+{
+    if y <= x {
+        return false;
+    }
+    y - x == 1
 }

@@ -7,7 +7,6 @@ ghost use Rattle.plan_purge.specs.Purge.{unwrittenPurge, movedPurge, pur
 use admit::Admitted;
 use admit::admit;
 use area::Area;
-use lent::Table;
 use rewrite_plan::Plan;
 use rules::Answer;
 use rules::Entry;
@@ -15,12 +14,16 @@ use rules::Partition;
 use rules::State;
 use rules::limits::ENTRIES_LENT;
 use rules::limits::ENTRIES_MAX;
+use rules::limits::PARTITIONS_MAX;
+use txn::parts_sound;
 
-// What a purge answers and keeps, and what it is to write: the entries in use of `new` at index `entry` on, and the
-// rows that the plan keeps of `old`, which lie from row `from` on, at row `to` on. The index `past` is past the end.
+// What a purge answers, and what it is to write: the partition at its place with so many rows, in the spare area; the
+// entries in use of `new` at index `entry` on; and the rows that the plan keeps of `old`, which lie from row `from` on,
+// at row `to` on. The index `past` is past the end, as is a place or a row where nothing is to be written.
 pub struct Purge {
     pub answer: Answer,
-    pub state: State,
+    pub place: usize,
+    pub rows: usize,
     pub old: Area,
     pub plan: Plan,
     pub new: Area,
@@ -30,9 +33,9 @@ pub struct Purge {
     pub to: usize,
 }
 
-// n entries are lent: none is written, and no row, since no area lies apart from itself.
-fn unwritten(state: State, n: usize, answer: Answer) -> Purge
-    ensures { λ r. ⌜ r ≡ unwrittenPurge state n answer ⌝ }
+// n entries and m rows are lent: none is written.
+fn unwritten(n: usize, m: usize, answer: Answer) -> Purge
+    ensures { λ r. ⌜ r ≡ unwrittenPurge n m answer ⌝ }
 {
     let at = [Entry {
         epoch: 0,
@@ -45,35 +48,32 @@ fn unwritten(state: State, n: usize, answer: Answer) -> Purge
     };
     Purge {
         answer: answer,
-        state: state,
+        place: PARTITIONS_MAX,
+        rows: 0,
         old: none,
         plan: plan,
         new: none,
-        entry: 0,
+        entry: n,
         past: n,
-        from: 0,
-        to: 0,
+        from: m,
+        to: m,
     }
 }
 
 // Partition p, which is q with the entries of area a, purged at l into the spare area.
-fn moved(state: State, n: usize, p: usize, q: Partition, a: Area, l: u64) -> Purge
-    ensures { λ r. ⌜ r ≡ movedPurge state n p q a l ⌝ }
+fn moved(a: Area, n: usize, spare: usize, l: u64, p: usize, q: Partition) -> Purge
+    ensures { λ r. ⌜ r ≡ movedPurge a n spare l p q ⌝ }
 {
-    let partitions = state.partitions;
-    let spare = partitions.spare;
     let plan = rewrite_plan::purge_plan(a, l);
     let done = rewrite::keep::rewritten(a, plan);
     let new = done.area;
-    let next = partition::areas::moved(partitions, p, done.rows, new.count);
-    let mut after = state;
-    after.partitions = next;
     let entry = area::entry_base(spare);
     let from = area::row_base(q.area);
     let to = area::row_base(spare);
     Purge {
         answer: Answer::Rewritten { rows: done.rows },
-        state: after,
+        place: p,
+        rows: done.rows,
         old: a,
         plan: plan,
         new: new,
@@ -84,26 +84,39 @@ fn moved(state: State, n: usize, p: usize, q: Partition, a: Area, l: u64) -> Pur
     }
 }
 
-// Partition p, which is q, on a sound store.
-fn purge_at(state: State, t: Table, n: usize, p: usize, q: Partition) -> Purge
-    ensures { λ r. ⌜ r ≡ purgeAt state t n p q ⌝ }
+// Partition p, which is q with the entries of area a, on a sound store.
+fn purge_at(a: Area, n: usize, m: usize, spare: usize, l: u64, p: usize, q: Partition) -> Purge
+    ensures { λ r. ⌜ r ≡ purgeAt a n m spare l p q ⌝ }
 {
-    let a = area::read(t, q);
-    let l = state.manager.clock.lse;
     if rewrite_plan::skips(a, l) {
-        return unwritten(state, n, Answer::Skipped { rows: q.rows });
+        return unwritten(n, m, Answer::Skipped { rows: q.rows });
     }
-    moved(state, n, p, q, a, l)
+    moved(a, n, spare, l, p, q)
 }
 
-// A purge of partition p at LSE.
-pub fn purge_core(state: State, t: Table, n: usize, m: usize, p: u64) -> Purge
-    ensures { λ r. ⌜ r ≡ purgePlan state t n m p ⌝ }
+// A purge of partition p, whose entries are a, at LSE; rest says whether the rest of the store is sound.
+pub fn purge_core(state: State, rest: bool, a: Area, n: usize, m: usize, p: u64) -> Purge
+    ensures { λ r. ⌜ r ≡ purgePlan state rest a n m p ⌝ }
 {
-    let admitted = admit(true, state, t, n, m, p);
+    let sound = parts_sound(
+        rest,
+        state.manager.clock,
+        state.manager.writers,
+        &state.manager.deps,
+        state.manager.readers,
+    );
+    let admitted = admit(sound, state.partitions, p);
     match admitted {
-        Admitted::Not(why) => unwritten(state, n, Answer::Refused(why)),
-        Admitted::To(q) => purge_at(state, t, n, p as usize, q),
+        Admitted::Not(why) => unwritten(n, m, Answer::Refused(why)),
+        Admitted::To(q) => purge_at(
+            a,
+            n,
+            m,
+            state.partitions.spare,
+            state.manager.clock.lse,
+            p as usize,
+            q,
+        ),
     }
 }
 
@@ -138,7 +151,7 @@ pub fn put_purge(entries: &mut [Entry], w: Purge)
     while i < ENTRIES_MAX {
         let j = place_of(w, i);
         let e = a[i];
-        lent::put_entry(entries, j, e);
+        lent::append_entry(entries, j, e);
         i = i + 1;
     }
 }

@@ -7,22 +7,20 @@ use mathlib.Core.List.{List, _++_}
 use Prim.Native.Nat.{ℕ, _/_}
 use lib.ListN.{length, take, drop, replicate}
 use lib.Dec.{ltb, leb}
-use Rattle.lists.specs.Lists.{firstOf}
-use Rattle.rules.specs.Manager.{opens, noRw, writersOf, hasOpen, hasReader, epochAt}
+use Rattle.rules.specs.Manager.{hasOpen, depsAt, hasReader, epochAt}
 use Rattle.rules.specs.Limits.{rowsMax}
 use Rattle.rules.specs.Bitmap.{bytesFor}
+use Rattle.rules.specs.WellFormed.{managerOk}
 use Rattle.rules.specs.declared.Answer.the-variants.{Scanned, Refused}
 use Rattle.rules.specs.declared.Refusal.{Refusal}
-use Rattle.rules.specs.declared.Refusal.the-variants.{ShortBitmap}
-use Rattle.rules.specs.declared.Entry.{Entry}
+use Rattle.rules.specs.declared.Refusal.the-variants.{NotOpen, ShortBitmap}
 use Rattle.rules.specs.declared.Manager.{Manager}
 use Rattle.rules.specs.declared.Partition.{Partition}
 use Rattle.rules.specs.declared.State.{State}
-use Rattle.lent.specs.declared.Table.{Table}
 use Rattle.visible.specs.declared.View.{View}
-use Rattle.visible.specs.View.{pageView}
+use Rattle.visible.specs.View.{depsWith, pageView}
 use Rattle.visible.specs.Scan.{scanned, bitmapScanned}
-use Rattle.area.specs.Area.{areaAt}
+use Rattle.area.specs.declared.Area.{Area}
 use Rattle.admit.specs.Admit.{admitted, byAdmission}
 use Rattle.plan_scan.specs.declared.Look.{Look}
 
@@ -37,29 +35,31 @@ noBits = replicate bitmapMax 0
 abbrev pub refusedLook : Refusal → Look
 refusedLook why = record { answer = Refused why; bits = noBits; count = 0 }
 
--- the reader of view v, with k bytes lent
-unfoldable pub lookAt : List Entry → Partition → View → ℕ → Look
-lookAt es q v k =
+-- the reader of view v, with the entries of area a and k bytes lent
+unfoldable pub lookAt : Area → Partition → View → ℕ → Look
+lookAt a q v k =
     cond (ltb k (bytesFor (q .rows))) (refusedLook ShortBitmap)
     (record {
-      answer = Scanned (q .rows) (scanned v (areaAt es q) (q .rows) noBits .ones);
-      bits = bitmapScanned v (areaAt es q) (q .rows) noBits; count = bytesFor (q .rows) })
+      answer = Scanned (q .rows) (scanned v a (q .rows) noBits .ones); bits = bitmapScanned v a (q .rows) noBits;
+      count = bytesFor (q .rows) })
 
 abbrev pub rwView : ℕ → Manager → View
-rwView i m = record { epoch = i; rw = 1; deps = firstOf (opens i) noRw (writersOf m) .deps }
+rwView i m = record { epoch = i; rw = 1; deps = depsWith (depsAt i m) }
 
 abbrev pub roView : ℕ → Manager → View
 roView i m = pageView (epochAt i m)
 
--- 01's order: 5, 1, 2, 3; isOpen says whether the reader is
-abbrev pub lookBy : Bool → View → State → Table → ℕ → ℕ → ℕ → ℕ → Look
-lookBy isOpen v s t n m k p = byAdmission refusedLook (λ q. lookAt (t .at) q v k) (admitted isOpen s t n m p)
+-- 01's order: 5, 1, 2, 3; isOpen says whether the reader is, and a has the partition's entries
+abbrev pub lookBy : Bool → View → State → Bool → Area → ℕ → ℕ → Look
+lookBy isOpen v s rest a k p =
+    byAdmission refusedLook (λ q. cond isOpen (lookAt a q v k) (refusedLook NotOpen))
+    (admitted (rest && managerOk (s .manager)) (s .partitions) p)
 
-unfoldable pub rwLook : State → Table → ℕ → ℕ → ℕ → ℕ → ℕ → Look
-rwLook s t n m k i p = lookBy (hasOpen i (s .manager)) (rwView i (s .manager)) s t n m k p
+unfoldable pub rwLook : State → Bool → Area → ℕ → ℕ → ℕ → Look
+rwLook s rest a k i p = lookBy (hasOpen i (s .manager)) (rwView i (s .manager)) s rest a k p
 
-unfoldable pub roLook : State → Table → ℕ → ℕ → ℕ → ℕ → ℕ → Look
-roLook s t n m k i p = lookBy (hasReader i (s .manager)) (roView i (s .manager)) s t n m k p
+unfoldable pub roLook : State → Bool → Area → ℕ → ℕ → ℕ → Look
+roLook s rest a k i p = lookBy (hasReader i (s .manager)) (roView i (s .manager)) s rest a k p
 
 -- the first n of the bytes over those lent, where so many are
 unfoldable pub copied : ℕ → List ℕ → List ℕ → List ℕ

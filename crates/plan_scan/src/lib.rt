@@ -1,14 +1,25 @@
 // Scans (01 "Who sees a row"), decided by value: what is refused, and the bytes that a call writes.
 ghost use mathlib.Core.Path.{_≡_};
+ghost use lib.ListN.{take};
+ghost use Rattle.rules.specs.Limits.{depsMax};
+ghost use Rattle.visible.specs.View.{depsWith};
 ghost use Rattle.plan_scan.specs.Scan.{refusedLook, lookAt, rwLook, roLook, copied};
 use admit::Admitted;
 use admit::admit;
-use lent::Table;
+use area::Area;
+use places::in_use;
 use rules::Answer;
 use rules::Partition;
 use rules::Refusal;
 use rules::State;
+use rules::limits::DEPS_MAX;
 use rules::limits::ROWS_MAX;
+use txn::parts_sound;
+use txn_find::Found;
+use txn_find::find_reader;
+use txn_find::find_writer;
+use txn_find::row_of;
+use visible::Deps;
 use visible::View;
 
 // The bytes that a partition's rows need at most.
@@ -32,18 +43,17 @@ fn refused(why: Refusal) -> Look
     }
 }
 
-// The reader of view v scans partition q, and k bytes are lent.
-fn scan_partition(t: Table, q: Partition, v: View, k: usize) -> Look
-    ensures { λ r. ⌜ r ≡ lookAt (t .at) q v k ⌝ }
+// The reader of view v scans partition q, whose entries are a, and k bytes are lent.
+fn scan_partition(a: Area, q: Partition, v: View, k: usize) -> Look
+    ensures { λ r. ⌜ r ≡ lookAt a q v k ⌝ }
 {
     let rows = q.rows;
     let count = visible::pack::bytes_for(rows);
     if k < count {
         return refused(Refusal::ShortBitmap);
     }
-    let es = area::read(t, q);
     let mut bits = [0u8; BITMAP_MAX];
-    let done = visible::scan(v, es, rows, &mut bits);
+    let done = visible::scan(v, a, rows, &mut bits);
     let answer = Answer::Scanned {
         rows: rows,
         ones: done.ones,
@@ -55,38 +65,72 @@ fn scan_partition(t: Table, q: Partition, v: View, k: usize) -> Look
     }
 }
 
-// Transaction i scans partition p.
-pub fn rw_core(state: State, t: Table, n: usize, m: usize, k: usize, i: u64, p: u64) -> Look
-    ensures { λ r. ⌜ r ≡ rwLook state t n m k i p ⌝ }
+// A row of the table of deps by value, unused places 0.
+fn in_places(row: &[u64]) -> Deps
+    ensures { λ r. ⌜ r ≡ depsWith (take depsMax (now (row .entry))) ⌝ }
 {
-    let open = txn_find::has_open(state.manager, i);
-    let admitted = admit(open, state, t, n, m, p);
+    let n = in_use(row.len(), DEPS_MAX);
+    let mut at = [0u64; DEPS_MAX];
+    let mut i: usize = 0;
+    while i < n {
+        at[i] = row[i];
+        i += 1;
+    }
+    Deps { at: at, count: n }
+}
+
+// Transaction i scans partition p, whose entries are a; rest says whether the rest of the store is sound.
+pub fn rw_core(state: State, rest: bool, a: Area, k: usize, i: u64, p: u64) -> Look
+    ensures { λ r. ⌜ r ≡ rwLook state rest a k i p ⌝ }
+{
+    let sound = parts_sound(
+        rest,
+        state.manager.clock,
+        state.manager.writers,
+        &state.manager.deps,
+        state.manager.readers,
+    );
+    let admitted = admit(sound, state.partitions, p);
     match admitted {
         Admitted::Not(why) => refused(why),
         Admitted::To(q) => {
-            let deps = txn_find::deps_at(state.manager, i);
+            let writers = state.manager.writers;
+            let Found::At(j) = find_writer(writers, i) else {
+                return refused(Refusal::NotOpen);
+            };
+            let n = writers.at[j].deps;
+            let deps = in_places(row_of(&state.manager.deps, j, n));
             let v = View {
                 epoch: i,
                 rw: 1,
                 deps: deps,
             };
-            scan_partition(t, q, v, k)
+            scan_partition(a, q, v, k)
         }
     }
 }
 
-// The read-only transaction (01: page) of ticket i scans partition p.
-pub fn ro_core(state: State, t: Table, n: usize, m: usize, k: usize, i: u64, p: u64) -> Look
-    ensures { λ r. ⌜ r ≡ roLook state t n m k i p ⌝ }
+// The read-only transaction (01: page) of ticket i scans partition p, whose entries are a.
+pub fn ro_core(state: State, rest: bool, a: Area, k: usize, i: u64, p: u64) -> Look
+    ensures { λ r. ⌜ r ≡ roLook state rest a k i p ⌝ }
 {
-    let open = txn_find::has_reader(state.manager, i);
-    let admitted = admit(open, state, t, n, m, p);
+    let sound = parts_sound(
+        rest,
+        state.manager.clock,
+        state.manager.writers,
+        &state.manager.deps,
+        state.manager.readers,
+    );
+    let admitted = admit(sound, state.partitions, p);
     match admitted {
         Admitted::Not(why) => refused(why),
         Admitted::To(q) => {
-            let epoch = txn_find::epoch_at(state.manager, i);
-            let v = visible::page(epoch);
-            scan_partition(t, q, v, k)
+            let readers = state.manager.readers;
+            let Found::At(j) = find_reader(readers, i) else {
+                return refused(Refusal::NotOpen);
+            };
+            let v = visible::page(readers.at[j].epoch);
+            scan_partition(a, q, v, k)
         }
     }
 }

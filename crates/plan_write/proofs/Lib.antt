@@ -1,2 +1,1 @@
-pub mod PutOne
 pub mod Types

@@ -1,157 +1,186 @@
-// Append and clear (01 "Lots"), decided by value: what is refused, and the one entry and the rows that a call writes.
+// Append and clear (01 "Lots"), decided by value: what is refused, and the entry and the rows that a call writes.
 ghost use mathlib.Core.Path.{_≡_};
-ghost use lib.ListN.{set};
-ghost use Rattle.rules.specs.Manager.{hasOpen};
 ghost use Rattle.partition.specs.Rows.{putRows};
 ghost use Rattle.plan_write.specs.Write.{refusedWrite, plannedWrite, appendAt, appendWrite, clearAt, clearWrite};
+ghost use Rattle.plan_write.specs.Write.{entriesWritten};
 use admit::Admitted;
 use admit::admit;
-use lent::Table;
 use partition::Plan;
 use rules::Answer;
 use rules::Entry;
 use rules::Partition;
 use rules::Refusal;
 use rules::State;
+use rules::limits::PARTITIONS_MAX;
+use txn::parts_sound;
+use txn_find::Found;
+use txn_find::find_writer;
 
-// What a call answers and keeps, and what it is to write: an index past the end means nothing.
+// What a call answers, and what it is to write: the partition at its place, a new entry at an index, the end of an
+// entry that stands at another, and a batch at a row. A place, an index and a row past the end mean nothing.
 pub struct Write {
     pub answer: Answer,
-    pub state: State,
+    pub place: usize,
+    pub partition: Partition,
     pub at: usize,
     pub entry: Entry,
+    pub grown: usize,
+    pub end: usize,
     pub row: usize,
 }
 
 // n entries and m rows are lent: nothing is written.
-fn refused(state: State, n: usize, m: usize, why: Refusal) -> Write
-    ensures { λ r. ⌜ r ≡ refusedWrite state n m why ⌝ }
+fn refused(n: usize, m: usize, why: Refusal) -> Write
+    ensures { λ r. ⌜ r ≡ refusedWrite n m why ⌝ }
 {
-    let none = Entry {
+    let entry = Entry {
         epoch: 0,
         end: 0,
         mark: 0,
     };
+    let partition = Partition {
+        area: 0,
+        rows: 0,
+        entries: 0,
+    };
     Write {
         answer: Answer::Refused(why),
-        state: state,
+        place: PARTITIONS_MAX,
+        partition: partition,
         at: n,
-        entry: none,
+        entry: entry,
+        grown: n,
+        end: 0,
         row: m,
     }
 }
 
-// The plan for partition p, which is q.
-fn planned(state: State, p: usize, q: Partition, plan: Plan, answer: Answer) -> Write
-    ensures { λ r. ⌜ r ≡ plannedWrite state p q plan answer ⌝ }
+// The plan for partition p, which is q: where the count of entries stays, the last one's end moves.
+fn planned(n: usize, p: usize, q: Partition, plan: Plan, answer: Answer) -> Write
+    ensures { λ r. ⌜ r ≡ plannedWrite n p q plan answer ⌝ }
 {
-    let partitions = state.partitions;
-    let grown = Partition {
+    let next = Partition {
         area: q.area,
         rows: plan.rows,
         entries: plan.entries,
     };
-    let next = partition::areas::with_partition(partitions, p, grown);
-    let mut after = state;
-    after.partitions = next;
     let entry = plan.entry;
+    let index = plan.index;
+    let row = plan.row;
+    if plan.entries == q.entries {
+        return Write {
+            answer: answer,
+            place: p,
+            partition: next,
+            at: n,
+            entry: entry,
+            grown: index,
+            end: entry.end,
+            row: row,
+        };
+    }
     Write {
         answer: answer,
-        state: after,
-        at: plan.index,
+        place: p,
+        partition: next,
+        at: index,
         entry: entry,
-        row: plan.row,
+        grown: n,
+        end: entry.end,
+        row: row,
     }
 }
 
-// Transaction i is open.
-fn is_open(state: State, i: u64) -> bool
-    ensures { λ r. ⌜ r ≡ hasOpen i (state .manager) ⌝ }
+// k rows by transaction i to partition p, which is q, on a sound store; last is its last entry.
+fn append_at(last: Entry, n: usize, m: usize, k: usize, i: u64, p: usize, q: Partition) -> Write
+    ensures { λ r. ⌜ r ≡ appendAt last n m k i p q ⌝ }
 {
-    txn_find::has_open(state.manager, i)
+    let plan = partition::append::append_plan(last, q, i, k);
+    if plan.full.rows {
+        return refused(n, m, Refusal::RowsFull);
+    }
+    if plan.full.entries {
+        return refused(n, m, Refusal::EntriesFull);
+    }
+    let answer = Answer::Appended { rows: plan.rows };
+    planned(n, p, q, plan, answer)
 }
 
-// k rows by transaction i to partition p, which is q, on a sound store.
-fn append_at(
+// k rows by transaction i to partition p, whose last entry is `last`; rest says whether the rest of the store is sound.
+pub fn append_core(
     state: State,
-    t: Table,
+    rest: bool,
+    last: Entry,
     n: usize,
     m: usize,
     k: usize,
     i: u64,
-    p: usize,
-    q: Partition,
+    p: u64,
 ) -> Write
-    ensures { λ r. ⌜ r ≡ appendAt state t n m k i p q ⌝ }
+    ensures { λ r. ⌜ r ≡ appendWrite state rest last n m k i p ⌝ }
 {
-    let plan = partition::append::append_plan(t, q, i, k);
-    if plan.full.rows {
-        return refused(state, n, m, Refusal::RowsFull);
-    }
-    if plan.full.entries {
-        return refused(state, n, m, Refusal::EntriesFull);
-    }
-    let answer = Answer::Appended { rows: plan.rows };
-    planned(state, p, q, plan, answer)
-}
-
-// k rows by transaction i to partition p.
-pub fn append_core(state: State, t: Table, n: usize, m: usize, k: usize, i: u64, p: u64) -> Write
-    ensures { λ r. ⌜ r ≡ appendWrite state t n m k i p ⌝ }
-{
-    let open = is_open(state, i);
-    let admitted = admit(open, state, t, n, m, p);
+    let sound = parts_sound(
+        rest,
+        state.manager.clock,
+        state.manager.writers,
+        &state.manager.deps,
+        state.manager.readers,
+    );
+    let admitted = admit(sound, state.partitions, p);
     match admitted {
-        Admitted::Not(why) => refused(state, n, m, why),
-        Admitted::To(q) => append_at(state, t, n, m, k, i, p as usize, q),
+        Admitted::Not(why) => refused(n, m, why),
+        Admitted::To(q) => {
+            let Found::At(_) = find_writer(state.manager.writers, i) else {
+                return refused(n, m, Refusal::NotOpen);
+            };
+            append_at(last, n, m, k, i, p as usize, q)
+        }
     }
 }
 
 // A clearing by transaction i of partition p, which is q, on a sound store.
-fn clear_at(state: State, n: usize, m: usize, i: u64, p: usize, q: Partition) -> Write
-    ensures { λ r. ⌜ r ≡ clearAt state n m i p q ⌝ }
+fn clear_at(n: usize, m: usize, i: u64, p: usize, q: Partition) -> Write
+    ensures { λ r. ⌜ r ≡ clearAt n m i p q ⌝ }
 {
     let plan = partition::append::clear_plan(q, i);
     if plan.full.entries {
-        return refused(state, n, m, Refusal::EntriesFull);
+        return refused(n, m, Refusal::EntriesFull);
     }
     let answer = Answer::Cleared {
         entries: plan.entries,
     };
-    planned(state, p, q, plan, answer)
+    planned(n, p, q, plan, answer)
 }
 
 // A clearing by transaction i of partition p.
-pub fn clear_core(state: State, t: Table, n: usize, m: usize, i: u64, p: u64) -> Write
-    ensures { λ r. ⌜ r ≡ clearWrite state t n m i p ⌝ }
+pub fn clear_core(state: State, rest: bool, n: usize, m: usize, i: u64, p: u64) -> Write
+    ensures { λ r. ⌜ r ≡ clearWrite state rest n m i p ⌝ }
 {
-    let open = is_open(state, i);
-    let admitted = admit(open, state, t, n, m, p);
+    let sound = parts_sound(
+        rest,
+        state.manager.clock,
+        state.manager.writers,
+        &state.manager.deps,
+        state.manager.readers,
+    );
+    let admitted = admit(sound, state.partitions, p);
     match admitted {
-        Admitted::Not(why) => refused(state, n, m, why),
-        Admitted::To(q) => clear_at(state, n, m, i, p as usize, q),
+        Admitted::Not(why) => refused(n, m, why),
+        Admitted::To(q) => {
+            let Found::At(_) = find_writer(state.manager.writers, i) else {
+                return refused(n, m, Refusal::NotOpen);
+            };
+            clear_at(n, m, i, p as usize, q)
+        }
     }
 }
 
-// The entry and its index, each by a call: the walk of put_write then knows no field of a write.
-pub fn index_of(w: Write) -> usize
-    ensures { λ r. ⌜ r ≡ w .at ⌝ }
-{
-    w.at
-}
-
-pub fn entry_of(w: Write) -> Entry
-    ensures { λ r. ⌜ r ≡ w .entry ⌝ }
-{
-    w.entry
-}
-
+// The new entry, then the end that moves.
 pub fn put_write(entries: &mut [Entry], w: Write)
-    ensures { λ _. ⌜ now (entries .exit) ≡ set (now (entries .entry)) (w .at) (w .entry) ⌝ }
+    ensures { λ _. ⌜ now (entries .exit) ≡ entriesWritten (now (entries .entry)) w ⌝ }
 {
-    let i = index_of(w);
-    let e = entry_of(w);
-    lent::put_entry(entries, i, e);
+    lent::append_entry(entries, w.at, w.entry);
+    lent::move_end(entries, w.grown, w.end);
 }
 
 pub fn write_rows(rows: &mut [u64], batch: &[u64], w: Write)

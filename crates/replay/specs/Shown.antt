@@ -3,17 +3,17 @@
 -- Assumes nothing.
 use mathlib.Core.List.{List, []}
 use Prim.Native.Nat.{ℕ, _*_}
-use lib.ListN.{length, take, getD}
+use lib.ListN.{length, take}
 use Rattle.lists.specs.Lists.{part}
 use Rattle.rules.specs.Answers.{replyOf, firstValue}
 use Rattle.rules.specs.Claim.{wordsAtOnes}
 use Rattle.rules.specs.Limits.{rowsMax}
 use Rattle.rules.specs.Step.{onScanCommand}
-use Rattle.rules.specs.Store.{noPartition}
 use Rattle.rules.specs.declared.Answer.{Answer}
 use Rattle.rules.specs.declared.Command.{Command}
 use Rattle.rules.specs.declared.Partitions.{Partitions}
 use Rattle.rules.specs.declared.Reader.{Reader}
+use Rattle.store.specs.Part.{areaOf}
 
 -- the words at the ones of a bitmap, of the first n rows of area a
 abbrev pub shownWords : List ℕ → ℕ → ℕ → List ℕ → List ℕ
@@ -24,9 +24,6 @@ abbrev pub fitting : List ℕ → List ℕ → List ℕ
 fitting ws buffer = take (length buffer) ws
 
 -- ---- by what a call answered, and the partitions, the bitmap and the rows after it
-
-abbrev pub areaOf : Partitions → ℕ → ℕ
-areaOf ps p = getD (ps .at) p noPartition .area
 
 abbrev pub shownIn : Command → Answer → Partitions → List ℕ → List ℕ → List ℕ
 shownIn c a ps bitmap rows =

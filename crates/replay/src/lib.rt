@@ -9,5 +9,4 @@ pub use lines::Replayed;
 pub use lines::replay;
 pub use opening::start;
 pub use rest::keep_rest;
-pub use shown::area_of;
 pub use shown::shown_rows;

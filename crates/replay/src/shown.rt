@@ -5,16 +5,16 @@ ghost use Rattle.lists.specs.Lists.{over};
 ghost use Rattle.rules.specs.Claim.{bitAt, wordsAtOnes};
 ghost use Rattle.session_text.specs.Lines.{sizeIn, writtenIn};
 ghost use Rattle.session_text.specs.Print.{printed};
-ghost use Rattle.replay.specs.Shown.{shownWords, fitting, areaOf, shownIn};
+ghost use Rattle.replay.specs.Shown.{shownWords, fitting, shownIn};
 use places::in_use;
 use reply::reply_of;
 use rules::Answer;
 use rules::Command;
 use rules::Partitions;
-use rules::limits::PARTITIONS_MAX;
 use rules::limits::ROWS_MAX;
 use session_text::letter_of;
 use session_text::print_line;
+use store::part::area_of;
 
 // Bit i of a bitmap, row 0 lowest in byte 0; past its end there are no ones.
 fn is_one(bitmap: &[u8], i: usize) -> bool
@@ -69,16 +69,6 @@ pub fn shown_rows(rows: &[u64], area: usize, n: usize, bitmap: &[u8], out: &mut 
     let from = ROWS_MAX * area;
     let end = from + in_use(in_use(n, ROWS_MAX), rows.len() - from);
     pick(&rows[from..end], bitmap, out)
-}
-
-// The area of partition p, 0 past the last.
-pub fn area_of(partitions: Partitions, p: u64) -> usize
-    ensures { λ r. ⌜ r ≡ areaOf partitions p ⌝ }
-{
-    if PARTITIONS_MAX as u64 <= p {
-        return 0;
-    }
-    partitions.at[p as usize].area
 }
 
 // The line that answers a command, at the front of `out`. The rows that a scan shows stand then at the front of

@@ -50,11 +50,6 @@ session-holds = refl
 
 -- ---- edges
 
--- transactions 1 and 2 in turn, n entries in all
-turns : ℕ → List Call
-turns zero = []
-turns (suc n) = append (suc (n % 2)) 0 (n ∷ []) ∷ turns n
-
 -- two rows of 1, then a delete of 2 that ends at row 3; a snapshot at 1 is open
 gap : Store
 gap =
@@ -86,11 +81,6 @@ edges =
         [])) ((0 ∷ 3 ∷ 1 ∷ []) ∷ (4 ∷ []) ∷ [])
     ∷ case (made 1) (begin ∷ append 1 0 (replicate 9 7) ∷ []) (bytesTo (Rw 1) 0 (170 ∷ [])) ((3 ∷ 0 ∷ 0 ∷ []) ∷
         (170 ∷ []) ∷ [])
-    -- 64 entries: an append that joins the last and a batch of no rows need none, any other needs one, and so
-    -- does a clearing
-    ∷ case (made 1) (begin ∷ begin ∷ turns 64)
-      (linesOf (append 1 0 (5 ∷ []) ∷ append 2 0 [] ∷ append 2 0 (5 ∷ []) ∷ clear 1 0 ∷ [])) (ok 65 ∷ ok 65 ∷ only
-          9 ∷ only 9 ∷ [])
     -- the first and the last epoch, and what lies beside them
     ∷ case (made 1) [] (linesOf (create 0 ∷ create (suc lastEpoch) ∷ create lastEpoch ∷ begin ∷ begin ∷ []))
       (only 4 ∷ only 4 ∷ only 0 ∷ ok lastEpoch ∷ only 6 ∷ [])
@@ -118,7 +108,7 @@ edges =
     ∷ []
 
 pub edges-hold : map observed edges ≡ map (λ c. c .expected) edges
-unfolding observed edges gap case look ok only turns lastEpoch
+unfolding observed edges gap case look ok only lastEpoch
 edges-hold = refl
 
 -- ---- the order of the refusals: each neighbouring pair of each call, both of which hold
@@ -132,9 +122,10 @@ spoilt st = withManager (withClock (withLse (suc (managerOf st .clock .lce)) (ma
 ticketless : Store → Store
 ticketless st = withManager (withReaders (readersOf (managerOf st)) (suc lastTicket) (managerOf st)) st
 
--- 64 entries, by the open transactions 1 and 2
-full : Store
-full = run (begin ∷ begin ∷ turns 64) (made 1)
+-- transactions 1 and 2 in turn, n entries in all
+turns : ℕ → List Call
+turns zero = []
+turns (suc n) = append (suc (n % 2)) 0 (n ∷ []) ∷ turns n
 
 pub order : List Case
 order =
@@ -142,12 +133,15 @@ order =
         only 5 ∷ only 5 ∷ only 5 ∷ [])
     ∷ case (spoilt (made 1)) [] (linesOf (commit 1 ∷ rollback 1 ∷ endRo 1 ∷ beginRo 9 ∷ advanceLse 9 ∷ []))
       (only 5 ∷ only 5 ∷ only 5 ∷ only 5 ∷ only 5 ∷ [])
-    ∷ case (spoilt (run (replicate 32 begin) (made (lastEpoch - 31)))) [] (linesOf (begin ∷ [])) (only 5 ∷ [])
-    ∷ case full [] (linesOf (append 9 8 [] ∷ clear 9 8 ∷ scan (Rw 9) 8 [] ∷ [])) (only 1 ∷ only 1 ∷ only 1 ∷ [])
-    ∷ case full [] (linesOf (append 9 0 (replicate 513 7) ∷ clear 9 0 ∷ scan (Ro 9) 0 [] ∷ [])) (only 2 ∷ only 2 ∷
-        only 2 ∷ [])
-    ∷ case full [] (linesOf (append 2 0 (replicate 449 7) ∷ append 2 0 (replicate 448 7) ∷ [])) (only 8 ∷ only 9 ∷
-        [])
+    ∷ case (spoilt (run (begin ∷ []) (made lastEpoch))) [] (linesOf (begin ∷ [])) (only 5 ∷ [])
+    -- a partition of 64 entries; an append that joins the last and a batch of no rows need none, any other needs one,
+    -- and so does a clearing
+    ∷ case (made 1) (begin ∷ begin ∷ turns 64)
+      (linesOf (append 9 8 [] ∷ clear 9 8 ∷ scan (Rw 9) 8 []
+        ∷ append 9 0 (replicate 513 7) ∷ clear 9 0 ∷ scan (Ro 9) 0 []
+        ∷ append 2 0 (replicate 449 7) ∷ append 2 0 (replicate 448 7)
+        ∷ append 1 0 (5 ∷ []) ∷ append 2 0 [] ∷ append 2 0 (5 ∷ []) ∷ clear 1 0 ∷ []))
+      (only 1 ∷ only 1 ∷ only 1 ∷ only 2 ∷ only 2 ∷ only 2 ∷ only 8 ∷ only 9 ∷ ok 65 ∷ ok 65 ∷ only 9 ∷ only 9 ∷ [])
     ∷ case (run (replicate 32 begin) (made (lastEpoch - 31))) [] (linesOf (begin ∷ [])) (only 6 ∷ [])
     ∷ case (ticketless (made 1)) [] (linesOf (beginRo 9 ∷ beginRo 0 ∷ [])) (only 4 ∷ only 6 ∷ [])
     ∷ case (ticketless (run (replicate 32 (beginRo 0)) (made 1))) [] (linesOf (beginRo 0 ∷ [])) (only 6 ∷ [])
@@ -156,5 +150,5 @@ order =
     ∷ []
 
 pub order-holds : map observed order ≡ map (λ c. c .expected) order
-unfolding observed order spoilt ticketless full case only turns lastEpoch lastTicket
+unfolding observed order spoilt ticketless case ok only turns lastEpoch lastTicket
 order-holds = refl

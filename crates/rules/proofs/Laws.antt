@@ -35,4 +35,5 @@ pub mod Tracks
 pub mod TracksBegin
 pub mod TracksClose
 pub mod TracksReadOnly
+pub mod Views
 pub mod WellFormed

@@ -3,30 +3,31 @@
 -- Elsewhere: demand 3 itself (History.antt), single calls (Laws/Stays.antt).
 -- Assumes nothing.
 use mathlib.Core.Path.{_≡_, refl, sym, _∙_, ap}
-use mathlib.Core.Bool.{Bool, true, _&&_}
+use mathlib.Core.Bool.{Bool, true, false, _&&_}
 use mathlib.Core.List.{List, [], _∷_, _++_, append-nil}
 use Prim.Native.Nat.{ℕ, _≤_, _<_}
 use lib.ListN.{length}
 use lib.Dec.{eqb}
 use borrow.Author.Tests.{eqb-true, lt-leb}
-use Rattle.lists.specs.Lists.{allOf}
-use Rattle.lists.proofs.Laws.Bools.{split, and-left, and-right, and-false}
+use Rattle.lists.specs.Lists.{keepIf, allOf}
+use Rattle.lists.proofs.Laws.All.{All-every, keepIf-keepIf, keepIf-ext, keepIf-none}
+use Rattle.lists.proofs.Laws.Bools.{split, and-left, and-right, and-true, and-false}
 use Rattle.rules.specs.Limits.{partitionsMax}
 use Rattle.rules.specs.Bitmap.{bytesFor}
 use Rattle.rules.specs.Store.{Store, partitionAt}
 use Rattle.rules.specs.Calls.{scanAnswer}
 use Rattle.rules.specs.Step.{Call, create, step, run}
-use Rattle.rules.specs.Ledger.{Ledger, linesAt}
+use Rattle.rules.specs.Ledger.{Line, row, delete, Ledger, linesAt, concealed, showsIn, shows}
 use Rattle.rules.specs.Claim.{history, ledgerOf, isOpenIn, shownBy, wordsScanned}
 use Rattle.rules.specs.Promises.{Made, storeAfter, ledgerAfter, HistorySound, HistoryLce, spares, rowsOf, rowsBy}
 use Rattle.rules.specs.Promises.{HistoryPageUnchanged, HistoryLoadUnchanged, ledgerSees, ledgerApplies}
-use Rattle.rules.specs.Promises.{LandsWhole, HistoryLandsWhole, NewClosesAll}
+use Rattle.rules.specs.Promises.{unhiddenIn, unhidden, shownLines, marked, wordsIn, HistoryLandsWhole}
+use Rattle.rules.specs.Promises.{NewClosesAll}
 use Rattle.rules.specs.declared.Reader.{Reader}
 use Rattle.rules.specs.declared.Reader.the-variants.{Rw, Ro}
 use Rattle.rules.proofs.Laws.WellFormed.{store-ok}
 use Rattle.rules.proofs.Laws.Sound.{sound-created, sound-run, sound-answers}
-use Rattle.rules.proofs.Laws.Lines.{shows-ext, shows-none}
-use Rattle.rules.proofs.Laws.Tracks.{tracks-admits, tracks-latest}
+use Rattle.rules.proofs.Laws.Tracks.{shownBy-tests, tracks-admits, tracks-latest}
 use Rattle.rules.proofs.Laws.Stays.{rowsOf-page, Stays, stays-still, stays-twice, stays-step}
 use Rattle.rules.proofs.Laws.Follows.{Follows}
 use Rattle.rules.proofs.History.{follows-step, follows-run, follows-agrees, follows-made}
@@ -83,22 +84,40 @@ history-load-unchanged s st h before i o calls k =
 
 -- ---- a load lands whole
 
-lands-whole : (j : ℕ) (r : Reader) (g : Ledger) → LandsWhole j r g
-lands-whole j r g = record {
-  whole = λ t p. shows-ext (sees j) applies (λ k. eqb k j) applies
-    (λ k. split (eqb k j) (λ e. rw (e, eqb-true k j e) (rw t)) (λ n. rw n (and-false (ledgerSees r g k))))
-    (λ k. refl) (linesAt p g);
-  nothing = λ f p. shows-none (sees j) applies
-    (λ k. split (eqb k j) (λ e. rw (eqb-true k j e, f)) (λ n. rw n (and-false (ledgerSees r g k))))
-    (linesAt p g) }
-  where
-    applies : ℕ → Bool
-    applies = ledgerApplies r g
-    sees : ℕ → ℕ → Bool
-    sees j k = ledgerSees r g k && eqb k j
+-- the words of the rows that are not hidden and whose mark passes are those that shows has
+words-unhidden : (s a : ℕ → Bool) (all ls : List Line)
+    → wordsIn (keepIf (λ x. s (x .0)) (unhiddenIn a all ls)) ≡ showsIn s a all ls
+unfolding showsIn
+words-unhidden s a all [] = refl
+words-unhidden s a all (row j w ∷ ls) = let ih = words-unhidden s a all ls in split (concealed a all ls j)
+    (λ c. rw (c, and-false (s j)) ih)
+    (λ n. rw (n, and-true (s j)) (split (s j) (λ t. rw (t, ih)) (λ f. rw f ih)))
+words-unhidden s a all (delete k ∷ ls) = words-unhidden s a all ls
+
+words-shown : (r : Reader) (p : ℕ) (g : Ledger) → wordsIn (shownLines r p g) ≡ shownBy r p g
+unfolding shows
+words-shown r p g = words-unhidden (ledgerSees r g) (ledgerApplies r g) (linesAt p g) (linesAt p g)
+    ∙ sym (shownBy-tests r p g)
+
+-- of the rows whose mark passes s, those marked j
+module _ (s : ℕ → Bool) (j : ℕ) (xs : List (ℕ × ℕ)) where
+  marked-seen : s j ≡ true → marked j (keepIf (λ x. s (x .0)) xs) ≡ marked j xs
+  marked-seen t = keepIf-keepIf (λ x. eqb (x .0) j) (λ x. s (x .0)) xs ∙ keepIf-ext _ _ xs (All-every _
+    (λ (x : ℕ × ℕ). split (eqb (x .0) j) (λ e. rw (e, eqb-true (x .0) j e) (rw t)) (λ n. rw n (and-false (s (x .0)))))
+    xs)
+
+  marked-unseen : s j ≡ false → marked j (keepIf (λ x. s (x .0)) xs) ≡ []
+  marked-unseen f = keepIf-keepIf (λ x. eqb (x .0) j) (λ x. s (x .0)) xs ∙ keepIf-none _ xs (All-every _
+    (λ (x : ℕ × ℕ). split (eqb (x .0) j) (λ e. rw (eqb-true (x .0) j e, f)) (λ n. rw n (and-false (s (x .0))))) xs)
 
 pub history-lands-whole : HistoryLandsWhole
-history-lands-whole s st h calls j r = lands-whole j r (ledgerAfter s st calls)
+history-lands-whole s st h calls r o =
+    let F = follows-history s st h calls in let g = ledgerAfter s st calls in
+    record {
+      shown = λ p. words-shown r p g;
+      scans = λ p l lent n. follows-agrees F r p l lent n .shows o ∙ sym (words-shown r p g);
+      whole = λ j t p. marked-seen (ledgerSees r g) j (unhidden r p g) t;
+      nothing = λ j f p. marked-unseen (ledgerSees r g) j (unhidden r p g) f }
 
 -- ---- making new closes all
 

@@ -3,19 +3,17 @@
 -- Assumes nothing.
 use mathlib.Core.List.{List, [], _∷_, _++_}
 use Prim.Native.Nat.{ℕ, suc, _-_}
-use Rattle.rules.specs.Manager.{rwTxn, emptyManager, writersOf, withClock, withEc, withWriters}
+use Rattle.rules.specs.Manager.{Writer, writer, emptyManager, writersOf, withClock, withEc, withWriters}
 use Rattle.rules.specs.Manager.{openEpochs}
-use Rattle.rules.specs.declared.RwTxn.{RwTxn}
 use Rattle.rules.specs.declared.Manager.{Manager}
 
 -- making new at s: EC = s, LCE = LSE = s − 1, no transaction, next ticket 1
 unfoldable pub createdManager : ℕ → Manager
 createdManager s = emptyManager (record { ec = s; lce = s - 1; lse = s - 1 })
 
--- the record of a transaction that begins at epoch e beside the transactions ts: its deps are the epochs open
--- just before
-abbrev pub begunTxn : ℕ → List RwTxn → RwTxn
-begunTxn e ts = rwTxn e 0 (openEpochs ts)
+-- a transaction that begins at epoch e beside the transactions ws: its deps are the epochs open just before
+abbrev pub begunTxn : ℕ → List Writer → Writer
+begunTxn e ws = writer e 0 (openEpochs ws)
 
 -- begin: the clock hands out EC and steps it by one
 unfoldable pub begunManager : Manager → Manager

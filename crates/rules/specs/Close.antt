@@ -8,32 +8,31 @@ use mathlib.Core.List.{List, [], map, foldr}
 use Prim.Native.Nat.{ℕ, max}
 use lib.Dec.{ltb, leb}
 use Rattle.lists.specs.Lists.{keepIf, allOf}
-use Rattle.rules.specs.Manager.{rwTxn, isOpen, opens, writersOf, withClock, withLce, withWriters}
-use Rattle.rules.specs.declared.RwTxn.{RwTxn}
+use Rattle.rules.specs.Manager.{Writer, writer, isOpen, opens, writersOf, withClock, withLce, withWriters}
 use Rattle.rules.specs.declared.Manager.{Manager}
 
 -- committed, it waits: it drops its deps and keeps its place
-abbrev pub waitingTxn : ℕ → RwTxn
-waitingTxn e = rwTxn e 1 []
+abbrev pub waitingTxn : ℕ → Writer
+waitingTxn e = writer e 1 []
 
-unfoldable pub committedTxns : ℕ → List RwTxn → List RwTxn
+unfoldable pub committedTxns : ℕ → List Writer → List Writer
 committedTxns i ts = map (λ t. cond (opens i t) (waitingTxn i) t) ts
 
 -- rolled back, it has no place
-unfoldable pub droppedTxns : ℕ → List RwTxn → List RwTxn
+unfoldable pub droppedTxns : ℕ → List Writer → List Writer
 droppedTxns i ts = keepIf (λ t. not (opens i t)) ts
 
 -- no open transaction has a smaller epoch than e
-abbrev pub unblocked : List RwTxn → ℕ → Bool
+abbrev pub unblocked : List Writer → ℕ → Bool
 unblocked ts e = allOf (λ t. not (isOpen t) || leb e (t .epoch)) ts
 
 -- the greatest committed epoch that has no open one below it: lce, unless one that waits is newer
-unfoldable pub settledLce : ℕ → List RwTxn → ℕ
+unfoldable pub settledLce : ℕ → List Writer → ℕ
 settledLce lce ts =
     foldr max lce (map (λ t. t .epoch) (keepIf (λ t. not (isOpen t) && unblocked ts (t .epoch)) ts))
 
 -- LCE is settled, and what it has reached waits no longer
-unfoldable pub settled : List RwTxn → Manager → Manager
+unfoldable pub settled : List Writer → Manager → Manager
 settled ts m =
     let lce = settledLce (m .clock .lce) ts in
     withClock (withLce lce (m .clock)) (withWriters (keepIf (λ t. isOpen t || ltb lce (t .epoch)) ts) m)

@@ -2,7 +2,7 @@
 -- the state".
 -- Laws: proofs/Laws/Limits.antt.
 -- Assumes nothing.
-use Prim.Native.Nat.{ℕ}
+use Prim.Native.Nat.{ℕ, _*_}
 
 -- an epoch is 1 to lastEpoch, and EC stops one above
 unfoldable pub lastEpoch : ℕ
@@ -21,6 +21,10 @@ readersMax = 32
 
 abbrev pub depsMax : ℕ
 depsMax = 31
+
+-- the deps of all read-write transactions, in one table
+abbrev pub depsAll : ℕ
+depsAll = writersMax * depsMax
 
 -- eight partitions (01: lots) in nine areas of 512 rows and 64 entries
 abbrev pub partitionsMax : ℕ

@@ -5,11 +5,11 @@
 -- Assumes nothing.
 use mathlib.Core.Path.{_≡_}
 use mathlib.Core.Bool.{Bool, true, false, not, _&&_, cond}
-use mathlib.Core.List.{List, [], _∷_, _++_}
+use mathlib.Core.List.{List, [], _∷_, _++_, map}
 use Prim.Native.Nat.{ℕ, _≤_, _<_}
 use lib.ListN.{length}
 use lib.Dec.{eqb}
-use Rattle.lists.specs.Lists.{allOf, elem}
+use Rattle.lists.specs.Lists.{keepIf, allOf, elem}
 use Rattle.rules.specs.Limits.{partitionsMax, lastEpoch}
 use Rattle.rules.specs.Bitmap.{bytesFor}
 use Rattle.rules.specs.Store.{Store, managerOf, partitionAt}
@@ -18,7 +18,7 @@ use Rattle.rules.specs.WellFormed.{wellFormed}
 use Rattle.rules.specs.Calls.{within}
 use Rattle.rules.specs.Step.{Call, create, manage, append, clear, rollback, scan, purge, step, run}
 use Rattle.rules.specs.Ledger.{Event, newAt, began, added, deleted, committed, aborted, opened, closed, other}
-use Rattle.rules.specs.Ledger.{Ledger, newLedger, latest, linesAt, marksOf, shows}
+use Rattle.rules.specs.Ledger.{Line, row, delete, Ledger, newLedger, latest, linesAt, concealed, marksOf}
 use Rattle.rules.specs.Claim.{eventOf, history, ledgerOf, isOpenIn, shownBy, wordsScanned}
 use Rattle.rules.specs.declared.Reader.{Reader}
 use Rattle.rules.specs.declared.Reader.the-variants.{Rw, Ro}
@@ -134,22 +134,38 @@ abbrev pub ledgerApplies : Reader → Ledger → ℕ → Bool
 ledgerApplies (Rw i) g k = elem k (marksOf i (g .writers)) && not (eqb k i)
 ledgerApplies (Ro t) g k = elem k (marksOf t (g .readers))
 
--- the rows marked j among those that r is shown
-abbrev pub shownOf : ℕ → Reader → ℕ → Ledger → List ℕ
-shownOf j r p g = shows (λ k. ledgerSees r g k && eqb k j) (ledgerApplies r g) (linesAt p g)
+-- mark and word of each row of a partition's list, in its order, but of those that a clearing hides which r applies
+abbrev pub unhiddenIn : (ℕ → Bool) → List Line → List Line → List (ℕ × ℕ)
+unhiddenIn applies all [] = []
+unhiddenIn applies all (row j w ∷ ls) =
+    let rest = unhiddenIn applies all ls in cond (concealed applies all ls j) rest ((j, w) ∷ rest)
+unhiddenIn applies all (delete k ∷ ls) = unhiddenIn applies all ls
 
--- all rows marked j, but those that a clearing hides which r applies
-abbrev pub landed : ℕ → Reader → ℕ → Ledger → List ℕ
-landed j r p g = shows (λ k. eqb k j) (ledgerApplies r g) (linesAt p g)
+abbrev pub unhidden : Reader → ℕ → Ledger → List (ℕ × ℕ)
+unhidden r p g = unhiddenIn (ledgerApplies r g) (linesAt p g) (linesAt p g)
 
-pub record LandsWhole (j : ℕ) (r : Reader) (g : Ledger) : Type 0 where
-  pub whole : ledgerSees r g j ≡ true → (p : ℕ) → shownOf j r p g ≡ landed j r p g
-  pub nothing : ledgerSees r g j ≡ false → (p : ℕ) → shownOf j r p g ≡ []
+-- of these the ones whose mark is in its snapshot: the rows that r is shown
+abbrev pub shownLines : Reader → ℕ → Ledger → List (ℕ × ℕ)
+shownLines r p g = keepIf (λ x. ledgerSees r g (x .0)) (unhidden r p g)
+
+abbrev pub marked : ℕ → List (ℕ × ℕ) → List (ℕ × ℕ)
+marked j xs = keepIf (λ x. eqb (x .0) j) xs
+
+abbrev pub wordsIn : List (ℕ × ℕ) → List ℕ
+wordsIn xs = map (λ x. x .1) xs
+
+-- the words of the rows shown to r are those that the ledger shows, and a scan; load j is whole among them, or absent
+pub record LandsWhole (r : Reader) (g : Ledger) (st : Store) : Type 0 where
+  pub shown : (p : ℕ) → wordsIn (shownLines r p g) ≡ shownBy r p g
+  pub scans : (p : ℕ) → p < partitionsMax → (lent : List ℕ) → bytesFor (partitionAt p st .rows) ≤ length lent
+      → wordsScanned r p lent st ≡ wordsIn (shownLines r p g)
+  pub whole : (j : ℕ) → ledgerSees r g j ≡ true → (p : ℕ) → marked j (shownLines r p g) ≡ marked j (unhidden r p g)
+  pub nothing : (j : ℕ) → ledgerSees r g j ≡ false → (p : ℕ) → marked j (shownLines r p g) ≡ []
 
 abbrev pub HistoryLandsWhole : Type 0
 HistoryLandsWhole =
-    (s : ℕ) (st : Store) → Made s st → (calls : List Call) (j : ℕ) (r : Reader)
-    → LandsWhole j r (ledgerAfter s st calls)
+    (s : ℕ) (st : Store) → Made s st → (calls : List Call) (r : Reader)
+    → isOpenIn r (ledgerAfter s st calls) ≡ true → LandsWhole r (ledgerAfter s st calls) (storeAfter s st calls)
 
 -- ---- making new closes all: no page and no load is open on the store that it leaves
 

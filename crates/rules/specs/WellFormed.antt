@@ -6,12 +6,12 @@
 use mathlib.Core.Bool.{Bool, true, not, _&&_, _||_}
 use mathlib.Core.List.{List, [], _∷_, map}
 use Prim.Native.Nat.{ℕ, suc, _*_}
-use lib.ListN.{length, drop}
+use lib.ListN.{length, take, drop}
 use lib.Dec.{ltb, leb, eqb}
 use Rattle.lists.specs.Lists.{anyOf, allOf, elem, distinct, rises, part}
 use Rattle.rules.specs.Limits.{lastEpoch, lastTicket, writersMax, readersMax, depsMax, areasMax}
 use Rattle.rules.specs.Limits.{rowsMax, entriesMax}
-use Rattle.rules.specs.Manager.{isOpen, depsOf, writersOf, readersOf}
+use Rattle.rules.specs.Manager.{Writer, recordsOf, writersOf, readersOf, isOpen}
 use Rattle.rules.specs.Store.{Store, managerOf}
 use Rattle.rules.specs.declared.Clock.{Clock}
 use Rattle.rules.specs.declared.RwTxn.{RwTxn}
@@ -30,28 +30,38 @@ clockOk c = leb 1 (c .ec) && leb (c .ec) (suc lastEpoch) && ltb (c .lce) (c .ec)
 abbrev pub zeros : List ℕ → Bool
 zeros xs = allOf (eqb 0) xs
 
--- at most 31 deps, rising, above LSE and below their transaction's epoch; unused places 0
-unfoldable pub depsOk : ℕ → RwTxn → Bool
-depsOk lse t =
-    leb (t .deps .count) depsMax && rises lse (t .epoch) (depsOf t) && zeros (drop (t .deps .count) (t .deps .at))
+-- at most 31 deps
+abbrev pub roomOk : RwTxn → Bool
+roomOk t = leb (t .deps) depsMax
 
--- open, or waiting with an open one below it and no deps; ts are all of them
-unfoldable pub statusOk : List RwTxn → RwTxn → Bool
-statusOk ts t =
-    eqb (t .waiting) 0
-    || (eqb (t .waiting) 1 && anyOf (λ u. isOpen u && ltb (u .epoch) (t .epoch)) ts && eqb (t .deps .count) 0)
+-- deps rising, above LSE and below their transaction's epoch
+unfoldable pub depsOk : ℕ → Writer → Bool
+depsOk lse w = rises lse (w .epoch) (w .deps)
+
+-- open, or waiting with an open one below it and no deps; ws are all of them
+unfoldable pub statusOk : List Writer → Writer → Bool
+statusOk ws w =
+    eqb (w .waiting) 0
+    || (eqb (w .waiting) 1 && anyOf (λ u. isOpen u && ltb (u .epoch) (w .epoch)) ws && eqb (length (w .deps)) 0)
 
 abbrev pub unusedRw : RwTxn → Bool
-unusedRw t = eqb (t .epoch) 0 && eqb (t .waiting) 0 && eqb (t .deps .count) 0 && zeros (t .deps .at)
+unusedRw t = eqb (t .epoch) 0 && eqb (t .waiting) 0 && eqb (t .deps) 0
+
+-- the words of the table that hold no dep are 0: the end of each record's row, and the rows without a record
+abbrev pub sparesZero : List ℕ → List RwTxn → Bool
+sparesZero ds [] = zeros ds
+sparesZero ds (t ∷ ts) = zeros (drop (t .deps) (take depsMax ds)) && sparesZero (drop depsMax ds) ts
 
 -- at most 32, epochs rising, above LCE and below EC; unused places 0
 unfoldable pub writersOk : Manager → Bool
 writersOk m =
     leb (m .writers .count) writersMax
-    && rises (m .clock .lce) (m .clock .ec) (map (λ t. t .epoch) (writersOf m))
+    && rises (m .clock .lce) (m .clock .ec) (map (λ w. w .epoch) (writersOf m))
     && allOf (statusOk (writersOf m)) (writersOf m)
+    && allOf roomOk (recordsOf m)
     && allOf (depsOk (m .clock .lse)) (writersOf m)
     && allOf unusedRw (drop (m .writers .count) (m .writers .at))
+    && sparesZero (m .deps) (recordsOf m)
 
 -- ---- read-only transactions (01: pages)
 
@@ -81,7 +91,7 @@ areasOk ps =
 -- an epoch that rows may have: 1 to EC − 1, and above LCE only with a record
 unfoldable pub epochOk : Manager → ℕ → Bool
 epochOk m j =
-    leb 1 j && ltb j (m .clock .ec) && (leb j (m .clock .lce) || elem j (map (λ t. t .epoch) (writersOf m)))
+    leb 1 j && ltb j (m .clock .ec) && (leb j (m .clock .lce) || elem j (map (λ w. w .epoch) (writersOf m)))
 
 -- a mark is rows or delete
 abbrev pub entryOk : Manager → Entry → Bool

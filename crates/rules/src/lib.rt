@@ -3,7 +3,7 @@
 // the order written, each 8 bytes wide and without padding, for callers in C and Rust.
 pub mod limits;
 
-use limits::DEPS_MAX;
+use limits::DEPS_ALL;
 use limits::PARTITIONS_MAX;
 use limits::READERS_MAX;
 use limits::WRITERS_MAX;
@@ -17,19 +17,13 @@ pub struct Clock {
     pub lse: u64,
 }
 
-// The epochs that were open when a transaction began (01: deps).
-#[repr(C)]
-pub struct Deps {
-    pub at: [u64; DEPS_MAX],
-    pub count: usize,
-}
-
-// A read-write transaction (01: load). waiting is 0 while it is open, and 1 once it is committed above LCE.
+// A read-write transaction (01: load). waiting is 0 while it is open, and 1 once it is committed above LCE. deps is
+// how many epochs were open when it began (01: deps); the epochs stand in the manager's table.
 #[repr(C)]
 pub struct RwTxn {
     pub epoch: u64,
     pub waiting: u64,
-    pub deps: Deps,
+    pub deps: usize,
 }
 
 #[repr(C)]
@@ -53,11 +47,13 @@ pub struct RoTxns {
     pub next: u64,
 }
 
-// The transaction manager: what 01's books hold beside the lots.
+// The transaction manager: what 01's books hold beside the lots. deps is one table for all records: row i, its words
+// 31 * i to 31 * i + 30, belongs to record i.
 #[repr(C)]
 pub struct Manager {
     pub clock: Clock,
     pub writers: RwTxns,
+    pub deps: [u64; DEPS_ALL],
     pub readers: RoTxns,
 }
 

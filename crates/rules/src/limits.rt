@@ -12,6 +12,9 @@ pub const READERS_MAX: usize = 32;
 
 pub const DEPS_MAX: usize = 31;
 
+// the deps of all read-write transactions, in one table
+pub const DEPS_ALL: usize = WRITERS_MAX * DEPS_MAX;
+
 // eight partitions (01: lots) in nine areas of 512 rows and 64 entries
 pub const PARTITIONS_MAX: usize = 8;
 

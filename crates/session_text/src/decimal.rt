@@ -5,15 +5,21 @@ ghost use lib.ListN.{length};
 ghost use Rattle.lists.specs.Lists.{over};
 ghost use Rattle.session_text.specs.Print.{decimal};
 
-// How many digits n has.
+// A u64 has at most so many.
+const DIGITS_MAX: usize = 20;
+
+// How many digits n has: by comparing it with the powers of 10.
 pub(crate) fn digits(n: u64) -> usize
     ensures { λ r. ⌜ r ≡ length (decimal n) ⌝ }
 {
     let mut count = 1;
-    let mut rest = n;
-    while 10 <= rest {
-        rest /= 10;
+    let mut power: u64 = 10;
+    while power <= n {
         count += 1;
+        if count == DIGITS_MAX {
+            return count;
+        }
+        power *= 10;
     }
     count
 }

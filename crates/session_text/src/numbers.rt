@@ -1,13 +1,17 @@
 // The numbers of a line: decimal digits, one blank between words. 01 "A session"; docs/DECISIONS.md D5.
 ghost use mathlib.Core.Path.{_≡_};
 ghost use mathlib.Core.Bool.{true, false, cond};
-ghost use Prim.Native.Nat.{_≤_, _<_};
+ghost use Prim.Native.Nat.{_+_, _*_, _^_, _≤_, _<_};
+ghost use lib.Dec.{leb};
 ghost use lib.ListN.{length, drop};
 ghost use Rattle.lists.specs.Lists.{over};
 ghost use Rattle.session_text.specs.Grammar.{areNumbers, numbersOf, lineMax};
 ghost use Rattle.session_text.specs.Numbers.{stepped};
 
-const U64_MAX: u64 = 18446744073709551615;
+// A value that one digit more keeps within 64 bits is at most this, and that digit at most 5 where it is just this.
+const VALUE_MAX: u64 = 1844674407370955161;
+
+const LAST_DIGIT: u64 = 5;
 
 // The bytes passed: how many numbers ended, and of the last its value so far and whether it has a digit.
 pub struct Passed {
@@ -43,6 +47,17 @@ fn end_number(p: Passed) -> Next
     Next::To(fresh(p.count + 1))
 }
 
+// Whether a value with one digit more is wider than 64 bits.
+fn is_wide(value: u64, digit: u64) -> bool
+    requires { ⌜ digit ≤ 9 ⌝ }
+    ensures { λ r. ⌜ r ≡ leb (2 ^ 64) (10 * value + digit) ⌝ }
+{
+    if value == VALUE_MAX {
+        return LAST_DIGIT < digit;
+    }
+    VALUE_MAX < value
+}
+
 fn add_digit(p: Passed, byte: u8) -> Next
     requires { ⌜ (byte ≡ 32 → ⊥) ⌝ }
     ensures { λ r. ⌜ r ≡ stepped p byte ⌝ }
@@ -54,7 +69,7 @@ fn add_digit(p: Passed, byte: u8) -> Next
         return Next::Not;
     }
     let digit = (byte - b'0') as u64;
-    if (U64_MAX - digit) / 10 < p.value {
+    if is_wide(p.value, digit) {
         return Next::Not;
     }
     Next::To(Passed {

@@ -1,6 +1,6 @@
 -- The walk of every function of Shape.antt's shape: one, whatever stands behind the rows.
 --     meets    the MIR meets the contract, where the callees meet theirs
--- Each group of locals is one entry of the context (Frame.antt); Batched.antt has the steps that differ with a batch.
+-- Each group of locals is one entry of the context (Frame.antt); Batched.antt has the steps that differ.
 -- Assumes `Given`.
 use mathlib.Core.Path.{_≡_, refl, subst}
 use mathlib.Core.Bool.{Bool}
@@ -12,11 +12,9 @@ use mir.Syntax.{named}
 use mir.Val.{Val}
 use base.Logic.{SProp, ent, emp, id⊢, via, fst∗}
 use base.Fml.{froom, fdies}
-use prog.Memory.{Memory}
-use prog.Routine.{Routine}
 use prog.Wp.{Heap, Env, WpFn, Tables}
 use ghost.Atoms.{Atoms}
-use contract.Monad.{Fun, fact}
+use contract.Monad.{fact}
 use contract.Lifetimes.{Lfts, Shares, toks}
 use types.Kit.{Given, Item, ‵, raw, _⊛_, ⋆, runs, atRet, Sq, _$_, _∵_, !, qed, by, move, drop, split, join, fsplit}
 use types.Kit.{fjoin, use0, suffices, frame, done}
@@ -29,7 +27,7 @@ use denote.Laws.{Is, Typed}
 use denote.Builtin.{u64}
 use denote.Slice.{Room, slice-vals, mut-slice-tells}
 use denote.Signature.{Slot, plain, typesAt}
-use denote.Steps.{owned, nothing}
+use denote.Steps.{owned, nothing as none}
 use denote.Struct.Laws as LL
 use denote.Triple.Statement.{Triple}
 use denote.Triple.End.{Kepts}
@@ -40,8 +38,6 @@ use denote.Triple.Walked.{says, Stays, stay-dropped, stay-slice, walkOf, goes-dr
 use denote.Triple.Walked.{walked, walk-meets, hasOf}
 use denote.Exit.{yes}
 use Rattle.rules.specs.declared.Entry.{Entry}
-use Rattle.lent.specs.declared.Table.{Table}
-use Rattle.lent.specs.Entries.{tableOf}
 use Rattle.rules.proofs.Entry as T
 use Rattle.rules.proofs.State as K
 use Rattle.rules.proofs.State.Laws as K′
@@ -51,17 +47,18 @@ use Rattle.walks.proofs.Lend.{lent-by, token, mutAt, refOf, valOf}
 use Rattle.walks.proofs.Values.{drops, lastly, no-fit, had, drops-go, applied, Nums}
 use Rattle.shapes.proofs.Tail.{more, lives, counted, tail, tailKept, tail-quiet, Types, batched, measured}
 use Rattle.shapes.proofs.Tail.{tailSpells, tailSpelt, TailFits, tail-tells, tail-typed, fits-measured}
-use Rattle.shapes.proofs.Shape.{params, lens, temps, len, temp, Shape, function, ended, clauses}
-use Rattle.shapes.proofs.Shape.{Core, Put, Wrote, Fin, sources, sourcesKept, writtenBy}
+use Rattle.shapes.proofs.Load.{Load, Loaded, cored, got, fits-got}
+use Rattle.shapes.proofs.Shape.{params, lens, heads, plans, temps, len, head, planned, temp, Shape, function}
+use Rattle.shapes.proofs.Shape.{ended, clauses, Core, Put, Wrote, Fin, sources, sourcesKept, writtenBy}
 use Rattle.shapes.proofs.Shape.{wrClauses}
-use Rattle.shapes.proofs.Batched.{Places, Passed, κs-of, vals-of, Lens, Temps, E, at-len, at-temp, Params}
-use Rattle.shapes.proofs.Batched.{measuring, planning, sent, sentVals, sends, reads-on, as-batched}
-use Rattle.lent.proofs.load_all.Symbol.{name as #lent·load-all}
-use Rattle.walks.proofs.Shown.{Shown}
+use Rattle.shapes.proofs.Batched.{Places, Passed, κs-of, vals-of, Lens, Heads, Plans, Temps, E, at-len, at-head}
+use Rattle.shapes.proofs.Batched.{at-plan, at-temp, Params, measuring, loading, planning, sent, sentVals, sends}
+use Rattle.shapes.proofs.Batched.{reads-on, as-batched}
+use Rattle.walks.proofs.Shown.{Shown, number, flag}
 use Rattle.walks.proofs.Calls.{yield-call, share-call, leave-call}
 use Rattle.walks.proofs.Calls.{mut-with-call}
-use Rattle.lent.proofs.Types.{table}
-use Rattle.shapes.proofs.Core.{state, books, cored, LoadAll}
+use Rattle.shapes.proofs.Core.{state, books, Ask, askedParts, asksOf, restOf, Asks, Rests, in-books}
+use Rattle.shapes.proofs.Core.{ask-args}
 
 module _ (sh : Shape) where
   abbrev P : Shown
@@ -69,6 +66,9 @@ module _ (sh : Shape) where
 
   abbrev Q : Shown
   Q = sh .answer
+
+  abbrev q : Ask
+  q = sh .asks
 
   abbrev b : Bool
   b = sh .batch
@@ -80,6 +80,9 @@ module _ (sh : Shape) where
   abbrev c : List Shown
   c = counted b n
 
+  abbrev l : Load n
+  l = sh .load
+
   abbrev ss : List (Slot (lives b))
   ss = tail b n
 
@@ -90,12 +93,11 @@ module _ (sh : Shape) where
   stayed = (stay-dropped (plain (λ _. K.the-row)) yes, (stay-slice (0 ∷ []) tt (plain (λ _. T.the-row)), (stay-slice (1
       ∷ []) tt (plain (λ _. u64)), drops ss ks)))
 
-  module _ {M : Type 1} (𝓤 : URA M) (H : Heap 𝓤) (A : Atoms 𝓤) (W : Given 𝓤 H A) (at-mem : Memory → SProp 𝓤) (run :
-      Routine
-      → Fun 𝓤) (𝓣 : Tables 𝓤 H)
-      (known-load : Triple 𝓤 (𝓣 .C #lent·load-all) (LoadAll 𝓤 H A at-mem run)) (known-core : Triple 𝓤 (𝓣 .C (sh .core))
-          (Core sh 𝓤 H A)) (known-put : Triple 𝓤 (𝓣 .C (sh .put)) (Put sh 𝓤 H A)) (known-wr : Triple 𝓤 (𝓣 .C (sh .wr))
-          (Wrote sh 𝓤 H A)) (known-fin : Triple 𝓤 (𝓣 .C (sh .fin)) (Fin sh 𝓤 H A)) where
+  module _ {M : Type 1} (𝓤 : URA M) (H : Heap 𝓤) (A : Atoms 𝓤) (W : Given 𝓤 H A) (𝓣 : Tables 𝓤 H) (known-ask : Triple 𝓤
+      (𝓣 .C (q .ask)) (Asks q 𝓤 H A)) (known-rest : Triple 𝓤 (𝓣 .C (q .rest)) (Rests q 𝓤 H A)) (known-load : Loaded l 𝓤
+      H A 𝓣) (known-core : Triple 𝓤 (𝓣 .C (sh .core)) (Core sh 𝓤 H A)) (known-put : Triple 𝓤 (𝓣 .C (sh .put)) (Put sh 𝓤
+      H A)) (known-wr : Triple 𝓤 (𝓣 .C (sh .wr)) (Wrote sh 𝓤 H A)) (known-fin : Triple 𝓤 (𝓣 .C (sh .fin)) (Fin sh 𝓤 H
+      A)) where
     abbrev fm : FmC 𝓤 H (W .laws) (𝓣 .C)
     fm = fmOf 𝓤 H (W .laws) 𝓣
 
@@ -121,17 +123,14 @@ module _ (sh : Shape) where
       abbrev rs : List ℕ
       rs = y .rows .list
 
-      abbrev tab : Table
-      tab = tableOf es
-
       abbrev ms : Nums 0 tt c
       ms = measured b n κs (y .rest)
 
       abbrev p : P .row .Denot
-      p = applied 0 tt c (sh .planOf (y .state) tab (length es) (length rs)) ms
+      p = applied 0 tt (cored l c) (sh .planOf) (got q (y .state) es rs b κs (y .rest) c ms l)
 
       abbrev ans : Q .row .Denot
-      ans = sh .answerOf p
+      ans = sh .answerOf (y .state) p
 
       abbrev es′ : List Entry
       es′ = sh .entriesBy es p
@@ -159,7 +158,7 @@ module _ (sh : Shape) where
               rs κs (y .rest)) $
           use0 W (‵ (hasOf κs ss ks (drops ss ks) (y .rest) ws vss)) (had 𝓤 H A W κs ss ks (y .rest) ws vss) $
           -- [what is had of the tail; the rows' token and slice; the tail's tokens; the entries' token and slice]
-          move ! (2 ∷ 0 ∷ []) $ fjoin ! $ move ! (4 ∷ 0 ∷ []) $ fjoin ! $ nothing ! $ fjoin ! $ move ! (1 ∷ 2 ∷ []) $
+          move ! (2 ∷ 0 ∷ []) $ fjoin ! $ move ! (4 ∷ 0 ∷ []) $ fjoin ! $ none ! $ fjoin ! $ move ! (1 ∷ 2 ∷ []) $
               join ! $ move ! (2 ∷ 0 ∷ []) $ join ! $ frame ! $ frame ! $
           owned ! (Q .row) (Is (Q .row)) (Q .makes 𝓤 H A W) ans _ ga $ done !
 
@@ -169,27 +168,40 @@ module _ (sh : Shape) where
         well = (state .wt 𝓤 H A W (y .state) gb, ((tt, (tt, (record { fits = r₁ .0 },
             tt))), ((tt, (tt, (record { fits = r₂ .0 }, tt))), tail-typed 𝓤 H A W b n κs (y .rest) ft)))
 
-        module _ (l : Places P b n) where
+        module _ (pl : Places q P b n l) where
           abbrev env : Env 𝓤 H
-          env = E P Q 𝓤 H A W b n l
+          env = E q P Q 𝓤 H A W b n l pl
 
           abbrev Ls : Env 𝓤 H
-          Ls = Lens P Q 𝓤 H A W b n l
+          Ls = Lens q P Q 𝓤 H A W b n l pl
+
+          abbrev Hs : Env 𝓤 H
+          Hs = Heads q P Q 𝓤 H A W b n l pl
+
+          abbrev Ps : Env 𝓤 H
+          Ps = Plans q P Q 𝓤 H A W b n l pl
 
           abbrev Ts : Env 𝓤 H
-          Ts = Temps P Q 𝓤 H A W b n l
+          Ts = Temps q P Q 𝓤 H A W b n l pl
 
-          at-l : (i : ℕ) → at 𝓤 H env (len b n i) ≡ at 𝓤 H (Ls ++ (Ts ++ [])) i
-          at-l = at-len P Q 𝓤 H A W b n l
+          at-l : (i : ℕ) → at 𝓤 H env (len b n i) ≡ at 𝓤 H (Ls ++ (Hs ++ (Ps ++ (Ts ++ [])))) i
+          at-l = at-len q P Q 𝓤 H A W b n l pl
 
-          at-t : (i : ℕ) → at 𝓤 H env (temp b n i) ≡ at 𝓤 H (Ts ++ []) i
-          at-t = at-temp P Q 𝓤 H A W b n l
+          at-h : (i : ℕ) → at 𝓤 H env (head b n q l i) ≡ at 𝓤 H (Hs ++ (Ps ++ (Ts ++ []))) i
+          at-h = at-head q P Q 𝓤 H A W b n l pl
+
+          at-p : (i : ℕ) → at 𝓤 H env (planned b n q l P i) ≡ at 𝓤 H (Ps ++ (Ts ++ [])) i
+          at-p = at-plan q P Q 𝓤 H A W b n l pl
+
+          at-t : (i : ℕ) → at 𝓤 H env (temp b n q l P i) ≡ at 𝓤 H (Ts ++ []) i
+          at-t = at-temp q P Q 𝓤 H A W b n l pl
 
           abbrev Begun : List (Item 𝓤)
-          Begun = ‵ (token (y .entries)) ∷ ‵ (mutAt (named 0) (y .entries) es) ∷ Params P Q 𝓤 H A W b n l y ∷ Frame Ls
-              (bares (asLocals (lens b))) ∷ Frame Ts (bares (asLocals (temps P))) ∷ ‵ (token (y .rows)) ∷ ‵ (mutAt
-              (named 1) (y .rows) rs) ∷ Toks ∷ ‵ (owns (Types b n κs) (y .rest) vss) ∷ ‵ (froom (Q .mir) (l .result)
-              zero) ∷ ‵ (fdies (Q .mir) (l .result)) ∷ []
+          Begun = ‵ (token (y .entries)) ∷ ‵ (mutAt (named 0) (y .entries) es) ∷ Params q P Q 𝓤 H A W b n l pl y ∷ Frame
+              Ls (bares (asLocals (lens b))) ∷ Frame Hs (bares (asLocals (heads q l))) ∷ Frame Ps (bares (asLocals
+              (plans P l))) ∷ Frame Ts (bares (asLocals temps)) ∷ ‵ (token (y .rows)) ∷ ‵ (mutAt (named 1) (y .rows)
+              rs) ∷ Toks ∷ ‵ (owns (Types b n κs) (y .rest) vss) ∷ ‵ (froom (Q .mir) (pl .result) zero) ∷ ‵ (fdies (Q
+              .mir) (pl .result)) ∷ []
 
           body : Sq W Begun (runs (𝓣 .C) (𝓣 .Λ) env (function sh .body) (atRet env Post))
           body =
@@ -197,57 +209,55 @@ module _ (sh : Shape) where
                   refl))))) (spot ! (at-l 0) (stop !)) (sets ! 3 0 refl tt (tt, record { fits = r₁ .0 })) $
               assigns ! (of-opd ! (load ! (from ! (fld ! refl (stop !))) (look-in ! 2 (sub ! 1 refl (within ! 2
                   refl))))) (spot ! (at-l 1) (stop !)) (sets ! 3 1 refl tt (tt, record { fits = r₂ .0 })) $
-              measuring P Q 𝓤 H A W b n l y ft $
+              measuring q P Q 𝓤 H A W b n l pl y ft $
+              yield-call fm (q .asked) askedParts (q .askedOf) known-ask (y .state .manager .clock, (y .state .manager
+                  .writers, (y .state .partitions, tt))) (in-books (y .state) gb) (λ _. ask-args ! 3 (y .state) refl
+                  refl refl refl) (λ ga.
+              land ! (spot ! (at-h 0) (stop !)) (sets ! 4 0 refl tt (q .asked .wt 𝓤 H A W (asksOf q (y .state)) ga)) $
               assigns ! (addr ! (from ! (fld ! refl (hop ! (look-in ! 2 (sub ! 0 refl (within ! 1 refl))) (stop !)))))
-                  (spot ! (at-t 2) (stop !)) (sets ! 4 2 refl tt (tt, tt)) $
-              assigns ! (agg ! (and-then ! (get ! 4 2 refl (at-t 2) refl) (and-then !
-                  (load ! (from ! (fld ! refl (stop !))) (look-in ! 2 (sub ! 1 refl (within ! 1 refl)))) (no-more !))))
-                      (spot
-                  ! (at-t 3) (stop !)) (sets ! 4 3 refl tt (tt, (tt, (record { fits = r₁ .0 }, tt)))) $
-              share-call fm T.the-row table [] tableOf known-load (named 0) (y .entries) r₁ (λ _. tt) (λ _. tt) tab
-                  (λ _. refl)
-              (λ _ _ _. and-then ! (get ! 4 3 refl (at-t 3) refl) (no-more !)) (λ gt.
-              land ! (spot ! (at-t 0) (stop !)) (sets ! 4 0 refl tt (table .wt 𝓤 H A W tab gt)) $
-              yield-call fm P (cored c) (sh .planOf) known-core (y .state, (tab, (_, (_, ms)))) (gb, (gt, ((refl, r₁
-                  .0),
-                  ((refl, r₂ .0), fits-measured b n κs (y .rest) ft))))
-              (λ _. and-then ! (get ! 3 0 refl refl refl) (and-then ! (get ! 5 0 refl (at-t 0) refl) (and-then ! (get !
-                  4 0 refl (at-l 0) refl) (and-then ! (get ! 4 1 refl (at-l 1) refl) (planning P Q 𝓤 H A W b n l y well
-                  _ _ _ _))))) (λ gp.
-              land ! (spot ! (at-t 1) (stop !)) (sets ! 4 1 refl tt (P .wt 𝓤 H A W p gp)) $
+                  (spot ! (at-p 1) (stop !)) (sets ! 5 1 refl tt (tt, tt)) $
+              assigns ! (agg ! (and-then ! (get ! 5 1 refl (at-p 1) refl) (and-then ! (load ! (from ! (fld ! refl (stop
+                  !))) (look-in ! 2 (sub ! 1 refl (within ! 1 refl)))) (no-more !)))) (spot ! (at-p 2) (stop !)) (sets !
+                  5 2 refl tt (tt, (tt, (record { fits = r₁ .0 }, tt)))) $
+              share-call fm T.the-row flag (number ∷ q .asked ∷ []) (q .soundOf) known-rest (named 0) (y .entries) r₁ (λ
+                  _. (length rs, (asksOf q (y .state), tt))) (λ _. ((refl, r₂ .0), (ga, tt))) (restOf q (y .state) es
+                  (length rs)) (λ _. refl) (λ _ _ _. and-then ! (get ! 5 2 refl (at-p 2) refl) (and-then ! (get ! 3 1
+                  refl (at-l 1) refl) (and-then ! (get ! 4 0 refl (at-h 0) refl) (no-more !)))) (λ gf.
+              land ! (spot ! (at-h 1) (stop !)) (sets ! 4 1 refl tt (tt, tt)) $
+              loading q P Q 𝓤 H A W b n y r₁ gb ft well 𝓣 c ms l pl known-load (λ gx.
+              yield-call fm P (cored l c) (sh .planOf) known-core (got q (y .state) es rs b κs (y .rest) c ms l)
+                  (fits-got q (y .state) es rs b κs (y .rest) c ms l gb (refl, r₁ .0) (refl, r₂ .0) gx (fits-measured b
+                  n κs (y .rest) ft)) (λ _. planning q P Q 𝓤 H A W b n y well _ _ _ _ l pl) (λ gp.
+              land ! (spot ! (at-p 0) (stop !)) (sets ! 5 0 refl tt (P .wt 𝓤 H A W p gp)) $
               assigns ! (addr ! (from ! (fld ! refl (hop ! (look-in ! 2 (sub ! 0 refl (within ! 1 refl))) (stop !)))))
-                  (spot ! (at-t 5) (stop !)) (sets ! 4 5 refl tt (tt, tt)) $
-              assigns ! (agg ! (and-then ! (get ! 4 5 refl (at-t 5) refl) (and-then !
-                  (load ! (from ! (fld ! refl (stop !))) (look-in ! 2 (sub ! 1 refl (within ! 1 refl)))) (no-more !))))
-                      (spot
-                  ! (at-t 6) (stop !)) (sets ! 4 6 refl tt (tt, (tt, (record { fits = r₁ .0 }, tt)))) $
+                  (spot ! (at-t 1) (stop !)) (sets ! 6 1 refl tt (tt, tt)) $
+              assigns ! (agg ! (and-then ! (get ! 6 1 refl (at-t 1) refl) (and-then ! (load ! (from ! (fld ! refl (stop
+                  !))) (look-in ! 2 (sub ! 1 refl (within ! 1 refl)))) (no-more !)))) (spot ! (at-t 2) (stop !)) (sets !
+                  6 2 refl tt (tt, (tt, (record { fits = r₁ .0 }, tt)))) $
               leave-call fm T.the-row (P ∷ []) (sh .entriesBy) known-put (named 0) (y .entries) r₁ (λ _. (p, tt)) (λ
-                  _. (gp,
-                  tt)) es′ (λ _. refl)
-              (λ _ _ _. and-then ! (get ! 4 6 refl (at-t 6) refl) (and-then ! (get ! 4 1 refl (at-t 1) refl) (no-more
-                  !))) (λ le.
-              land ! (spot ! (at-t 4) (stop !)) (sets ! 4 4 refl tt (tt, tt)) $
+                  _. (gp, tt)) es′ (λ _. refl) (λ _ _ _. and-then ! (get ! 6 2 refl (at-t 2) refl) (and-then ! (get ! 5
+                  0 refl (at-p 0) refl) (no-more !))) (λ le.
+              land ! (spot ! (at-t 0) (stop !)) (sets ! 6 0 refl tt (tt, tt)) $
               assigns ! (addr ! (from ! (fld ! refl (hop ! (look-in ! 2 (sub ! 0 refl (within ! 2 refl))) (stop !)))))
-                  (spot ! (at-t 7) (stop !)) (sets ! 4 7 refl tt (tt, tt)) $
-              assigns ! (agg ! (and-then ! (get ! 4 7 refl (at-t 7) refl) (and-then !
-                  (load ! (from ! (fld ! refl (stop !))) (look-in ! 2 (sub ! 1 refl (within ! 2 refl)))) (no-more !))))
-                      (spot
-                  ! (at-t 8) (stop !)) (sets ! 4 8 refl tt (tt, (tt, (record { fits = r₂ .0 }, tt)))) $
-              move ! (5 ∷ 6 ∷ 7 ∷ 8 ∷ 2 ∷ 3 ∷ 4 ∷ []) $
+                  (spot ! (at-t 3) (stop !)) (sets ! 6 3 refl tt (tt, tt)) $
+              assigns ! (agg ! (and-then ! (get ! 6 3 refl (at-t 3) refl) (and-then ! (load ! (from ! (fld ! refl (stop
+                  !))) (look-in ! 2 (sub ! 1 refl (within ! 2 refl)))) (no-more !)))) (spot ! (at-t 4) (stop !)) (sets !
+                  6 4 refl tt (tt, (tt, (record { fits = r₂ .0 }, tt)))) $
+              move ! (7 ∷ 8 ∷ 9 ∷ 10 ∷ 2 ∷ 3 ∷ 4 ∷ 5 ∷ 6 ∷ []) $
               mut-with-call fm u64 (more b) (sources P b) (sourcesKept P b) (wrClauses P 𝓤 b (sh .rowsBy)) known-wr
-                  (named 1) (y .rows) (y .lfts) (y .shares) (sent P Q 𝓤 H A W b n y p) (sentVals P Q 𝓤 H A W b n y p) (λ
-                  _ _. tt) r₂ (λ α _. sends P Q 𝓤 H A W p gp b n y α) rs′ (λ ts _ _ ws. subst (λ (z : List ℕ). ent 𝓤
-                  (fact 𝓤 (ws .0 ≡ writtenBy P b ts (sh .rowsBy rs) (sent P Q 𝓤 H A W b n y p ts))) (fact 𝓤 (ws .0 ≡
-                  z))) (as-batched P Q 𝓤 H A W p gp b n y ts (sh .rowsBy rs)) (id⊢ 𝓤 _))
-              (λ α _ _ _. reads-on P Q 𝓤 H A W p gp b n l y _ refl refl _ _ _ _ (α ∷ [], y .lfts)) (λ lr.
+                  (named 1) (y .rows) (y .lfts) (y .shares) (sent q P Q 𝓤 H A W b n y p) (sentVals q P Q 𝓤 H A W b n y
+                  p) (λ _ _. tt) r₂ (λ α _. sends q P Q 𝓤 H A W p gp b n y α) rs′ (λ ts _ _ ws. subst (λ (z : List ℕ).
+                  ent 𝓤 (fact 𝓤 (ws .0 ≡ writtenBy P b ts (sh .rowsBy rs) (sent q P Q 𝓤 H A W b n y p ts))) (fact 𝓤 (ws
+                  .0 ≡ z))) (as-batched q P Q 𝓤 H A W p gp b n y ts (sh .rowsBy rs)) (id⊢ 𝓤 _))
+              (λ α _ _ _. reads-on q P Q 𝓤 H A W p gp b n l pl y _ _ refl refl _ _ _ _ _ (α ∷ [], y .lfts)) (λ lr.
               -- [the rows; the tail's tokens; the frames; the entries; room for the result]
-              land ! (spot ! (at-t 4) (stop !)) (sets ! 5 4 refl tt (tt, tt)) $
-              yield-call fm Q (P ∷ []) (sh .answerOf) known-fin (p, tt) (gp, tt) (λ _. and-then ! (get ! 6 1 refl
-                  (at-t 1) refl) (no-more !)) (λ ga.
-              land ! (from ! (stop !)) (init ! 8 refl (Q .wt 𝓤 H A W ans ga)) $
-              returns ! (look ! 8 refl) $ forget ! 8 refl $ move ! (8 ∷ 9 ∷ 3 ∷ 4 ∷ 5 ∷ []) $ free1 ! $
-              frees-frame ! (envOf (asLocals (params b n)) (l .args)) _ $ frees-frame ! (Ls) _ $
-              frees-frame ! (Ts) [] $ free0 ! $ by ! (exits gb le lr ga))))))
+              land ! (spot ! (at-t 0) (stop !)) (sets ! 7 0 refl tt (tt, tt)) $
+              yield-call fm Q (state ∷ P ∷ []) (sh .answerOf) known-fin (y .state, (p, tt)) (gb, (gp, tt)) (λ _.
+                  and-then ! (get ! 4 0 refl refl refl) (and-then ! (get ! 7 0 refl (at-p 0) refl) (no-more !))) (λ gz.
+              land ! (from ! (stop !)) (init ! 10 refl (Q .wt 𝓤 H A W ans gz)) $
+              returns ! (look ! 10 refl) $ forget ! 10 refl $ move ! (10 ∷ 11 ∷ 3 ∷ 4 ∷ 5 ∷ 6 ∷ 7 ∷ []) $ free1 ! $
+              frees-frame ! (envOf (asLocals (params b n)) (pl .args)) _ $ frees-frame ! Ls _ $ frees-frame ! Hs _ $
+              frees-frame ! Ps _ $ frees-frame ! Ts [] $ free0 ! $ by ! (exits gb le lr gz))))))))
 
         walk : ent 𝓤 (onEntry 𝓤 H A (ended sh .signature) κs qs x xvs) (WpFn 𝓤 H (𝓣 .C) (𝓣 .Λ) (function sh) (vals-of b
             n y) Post)
@@ -256,14 +266,15 @@ module _ (sh : Shape) where
                 .signature .params) κs) x xvs) ∷ []) ∵
             enter ! (𝓣 .C) (𝓣 .Λ) (function sh) (vals-of b n y) _ $
             alloc1 ! (λ o. allocs-frame ! (asLocals (params b n)) (λ ps. allocs-frame ! (asLocals (lens b)) (λ ls.
-                allocs-frame ! (asLocals (temps P)) (λ ts. alloc0 ! $ params1 ! $ move ! (2 ∷ []) $
+                allocs-frame ! (asLocals (heads q l)) (λ hs. allocs-frame ! (asLocals (plans P l)) (λ pls. allocs-frame
+                ! (asLocals temps) (λ ts. alloc0 ! $ params1 ! $ move ! (4 ∷ []) $
             passes-frame ! (params b n) ps _ well $
-            -- [the arguments; the other locals; the lengths; the result; the tokens; what the parameters own]
-            move ! (5 ∷ 6 ∷ []) $ split ! $ move ! (1 ∷ []) $ split ! $ move ! (3 ∷ []) $ fsplit ! $ drop ! $ fsplit ! $
+            -- [the arguments; the other locals, the last first; the result; the tokens; what the parameters own]
+            move ! (7 ∷ 8 ∷ []) $ split ! $ move ! (1 ∷ []) $ split ! $ move ! (3 ∷ []) $ fsplit ! $ drop ! $ fsplit ! $
                 move ! (1 ∷ []) $ fsplit ! $
             -- [the rows; the tail; the entries; the rows' token, the tail's; the entries'; the locals]
-            move ! (5 ∷ 2 ∷ 6 ∷ 8 ∷ 7 ∷ 3 ∷ 0 ∷ 4 ∷ 1 ∷ []) $
-            body (record { result = o; args = ps; lengths = ls; others = ts })))))
+            move ! (5 ∷ 2 ∷ 6 ∷ 10 ∷ 9 ∷ 8 ∷ 7 ∷ 3 ∷ 0 ∷ 4 ∷ 1 ∷ []) $
+            body (record { result = o; args = ps; lengths = ls; asked = hs; plan = pls; others = ts })))))))
 
     walks : Walks 𝓤 H A (ended sh) stayed (WpFn 𝓤 H (𝓣 .C) (𝓣 .Λ) (function sh)) (clauses sh 𝓤)
     walks = walked 𝓤 H A (ended sh) stayed (clauses sh 𝓤) (WpFn 𝓤 H (𝓣 .C) (𝓣 .Λ) (function sh)) (λ κs. (LL.vals

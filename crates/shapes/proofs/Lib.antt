@@ -2,7 +2,10 @@ pub mod Batched
 pub mod Callers
 pub mod Change
 pub mod Core
+pub mod Folds
+pub mod Load
 pub mod Look
+pub mod Roll
 pub mod Saves
 pub mod Saving
 pub mod Scan

@@ -1,6 +1,6 @@
 -- An array of n entries written one by one to a lent slice, for any plan: `let a = area(p); let mut i = 0; while i < n
--- { let j = place(p, i); let e = a[i]; put_entry(entries, j, e); i = i + 1; }`. The array is indexed in the loop's own
--- function: a callee that indexes a table it is passed by value copies the table at each turn.
+-- { let j = place(p, i); let e = a[i]; append_entry(entries, j, e); i = i + 1; }`. The array is indexed in the loop's
+-- own function: a callee that indexes a table it is passed by value copies the table at each turn.
 --     function         its MIR, by the symbols of place and area
 --     ended, clauses   its contract: the list at exit is `saved Pl Ar` of the list at entry
 --     PutEntry, Place, Area    the callees' contracts
@@ -32,8 +32,8 @@ use Rattle.rules.proofs.Entry as T
 use Rattle.rules.proofs.Entry.Laws as T′
 use Rattle.lent.specs.Shapes.{saved}
 use Rattle.walks.proofs.Frame.{asLocals}
-use Rattle.lent.proofs.put_entry as put-entry
-use Rattle.lent.proofs.put_entry.Symbol.{name as #lent·put-entry}
+use Rattle.lent.proofs.append_entry as append-entry
+use Rattle.lent.proofs.append_entry.Symbol.{name as #lent·append-entry}
 use Rattle.walks.proofs.Shown.{Shown, number}
 use Rattle.walks.proofs.Calls.{Writes, Yields}
 use Rattle.lent.proofs.Types.{area}
@@ -62,7 +62,7 @@ turn-body n place′ = seq (assign (place 8 []) (op2 (lt unsigned) (copy (place 
     (seq (assign (place 6 []) (rvOpd (copy (place 12 []))))
     (seq (assign (place 14 []) (addrOf (place 1 (field 0 ∷ deref T′.mir ∷ []))))
     (seq (assign (place 15 []) (aggregate (copy (place 14 []) ∷ copy (place 1 (field 1 ∷ [])) ∷ [])))
-    (seq (call #lent·put-entry (copy (place 15 []) ∷ copy (place 5 []) ∷ copy (place 6 []) ∷ []) (place 13 []))
+    (seq (call #lent·append-entry (copy (place 15 []) ∷ copy (place 5 []) ∷ copy (place 6 []) ∷ []) (place 13 []))
     (assign (place 4 []) (op2 (add unsigned) (copy (place 4 [])) (int w64 1)))))))))))))
 
 abbrev pub last-part : Body
@@ -93,7 +93,7 @@ function n P place′ area = record {
 
 abbrev pub PutEntry : {M : Type 1} (𝓤 : URA M) (H : Heap 𝓤) (A : Atoms 𝓤) (at-mem : Memory → SProp 𝓤) (run :
     Routine → Fun 𝓤) → Contract 𝓤
-PutEntry 𝓤 H A at-mem run = tripleOf 𝓤 H A put-entry.signature (put-entry.spec 𝓤 H A at-mem run)
+PutEntry 𝓤 H A at-mem run = tripleOf 𝓤 H A append-entry.signature (append-entry.spec 𝓤 H A at-mem run)
 
 module _ (n : ℕ) (P : Shown) where
   abbrev pub ended : Ended

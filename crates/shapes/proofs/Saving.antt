@@ -55,7 +55,7 @@ use Rattle.walks.proofs.Frame.{Frame, holds, asLocals, bares, allocs-frame, pas
 use Rattle.walks.proofs.Frame.{get, empties, as-value}
 use Rattle.walks.proofs.Lend.{Lent, lent-by, token, mutAt, refOf, valOf, on-list, held}
 use Rattle.lent.proofs.Saved.{saved-length}
-use Rattle.lent.proofs.put_entry.Symbol.{name as #lent·put-entry}
+use Rattle.lent.proofs.append_entry.Symbol.{name as #lent·append-entry}
 use Rattle.walks.proofs.Shown.{Shown, number, value-in, value-out}
 use Rattle.walks.proofs.Calls.{yield-call, leave-call}
 use Rattle.lent.proofs.Types.{entry, area}
@@ -66,7 +66,7 @@ module _ (n : ℕ) (P : Shown) where
   module _ (small : n < 4294967296) (fits-n : Holds (ltb n (2 ^ 64))) (place′ area′ : Name) (Pl : P .row .Denot → ℕ
       → ℕ) (Ar : P .row .Denot → List Entry) {M : Type 1} (𝓤 : URA M) (H : Heap 𝓤) (A : Atoms 𝓤) (W : Given 𝓤 H A)
       (at-mem : Memory → SProp 𝓤) (run : Routine → Fun 𝓤) (𝓣 : Tables 𝓤 H)
-      (known-put : Triple 𝓤 (𝓣 .C #lent·put-entry) (PutEntry 𝓤 H A at-mem run)) (known-place : Triple 𝓤 (𝓣 .C
+      (known-put : Triple 𝓤 (𝓣 .C #lent·append-entry) (PutEntry 𝓤 H A at-mem run)) (known-place : Triple 𝓤 (𝓣 .C
           place′) (Place n P Pl Ar 𝓤 H A)) (known-area : Triple 𝓤 (𝓣 .C area′) (Area n P Pl Ar 𝓤 H A)) where
     abbrev fm : FmC 𝓤 H (W .laws) (𝓣 .C)
     fm = fmOf 𝓤 H (W .laws) 𝓣

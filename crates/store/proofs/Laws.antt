@@ -3,3 +3,4 @@ pub mod Write
 pub mod Scan
 pub mod Purge
 pub mod RollBack
+pub mod Part

@@ -1,22 +1,24 @@
 -- What a call by value keeps, and what a public call leaves, beside rules' step.
--- In order: storeOf, Left, Showed, the calls on the manager. Laws: proofs/Laws/Kept.antt.
+-- In order: storeOf, Left, Showed, the calls on the manager, a roll back's part. Laws: proofs/Laws/Kept.antt.
 -- Assumes nothing.
 use mathlib.Core.Path.{_≡_}
-use mathlib.Core.Bool.{cond}
+use mathlib.Core.Bool.{Bool, _&&_, cond}
 use mathlib.Core.List.{List}
 use Prim.Native.Nat.{ℕ}
 use Rattle.rules.specs.Store.{Store, withManagerIn, createdState}
 use Rattle.rules.specs.Answers.{accepted}
-use Rattle.rules.specs.Calls.{createAnswer, managerAnswer, managerAfter}
+use Rattle.rules.specs.WellFormed.{managerOk}
+use Rattle.rules.specs.Close.{rolledBackManager}
+use Rattle.rules.specs.Calls.{createAnswer, closeAnswer, managerAnswer, managerAfter}
 use Rattle.rules.specs.Step.{Outcome}
 use Rattle.rules.specs.declared.Answer.{Answer}
 use Rattle.rules.specs.declared.ManagerCall.{ManagerCall}
 use Rattle.rules.specs.declared.Entry.{Entry}
 use Rattle.rules.specs.declared.Manager.{Manager}
 use Rattle.rules.specs.declared.State.{State}
+use Rattle.txn.specs.Managed.{managed}
 use Rattle.txn.specs.declared.Managed.{Managed}
-use Rattle.lent.specs.declared.Table.{Table}
-use Rattle.admit.specs.Sound.{lengthsAre, soundOf}
+use Rattle.partition_sound.specs.Asked.{lengthsAre}
 use Rattle.store.specs.declared.Kept.{Kept}
 
 -- the store of the books and the lent areas
@@ -42,10 +44,18 @@ keptOf a next s =
     record { answer = a; state = withManagerIn (cond (accepted a) next (s .manager)) s }
 
 -- making new reads no state
-abbrev pub createKept : State → Table → ℕ → ℕ → ℕ → Kept
-createKept s t n m a =
+abbrev pub createKept : State → ℕ → ℕ → ℕ → Kept
+createKept s n m a =
     let answer = createAnswer a (lengthsAre n m) in
     record { answer = answer; state = cond (accepted answer) (createdState a) s }
 
-abbrev pub managerKept : State → Table → ℕ → ℕ → ManagerCall → Kept
-managerKept s t n m c = keptOf (managerAnswer c (soundOf s t n m) (s .manager)) (managerAfter c (s .manager)) s
+-- rest says whether the rest of the store is sound
+abbrev pub managerKept : State → Bool → ManagerCall → Kept
+managerKept s rest c =
+    keptOf (managerAnswer c (rest && managerOk (s .manager)) (s .manager)) (managerAfter c (s .manager)) s
+
+-- the manager's part of rolling back transaction i
+abbrev pub rollBackManaged : State → Bool → ℕ → Managed
+rollBackManaged s rest i =
+    let next = rolledBackManager i (s .manager) in
+    managed (closeAnswer i (rest && managerOk (s .manager)) (s .manager) next) next (s .manager)

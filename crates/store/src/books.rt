@@ -1,13 +1,13 @@
 // Making new, and the calls on the manager, decided by value.
 ghost use mathlib.Core.Path.{_≡_};
 ghost use Rattle.rules.specs.Store.{freshPartitions};
-ghost use Rattle.store.specs.Kept.{keptWith, createKept, managerKept};
+ghost use Rattle.partition_sound.specs.Asked.{lengthsAre};
+ghost use Rattle.rules.specs.Answers.{accepted};
+ghost use Rattle.store.specs.Kept.{keptWith, createKept, managerKept, rollBackManaged};
 use crate::Kept;
 use crate::new_books;
-use admit::sound;
 use epoch::Epoch;
 use epoch::Start;
-use lent::Table;
 use rules::Answer;
 use rules::Manager;
 use rules::ManagerCall;
@@ -15,7 +15,9 @@ use rules::Partition;
 use rules::Partitions;
 use rules::Refusal;
 use rules::State;
+use rules::limits::ENTRIES_LENT;
 use rules::limits::PARTITIONS_MAX;
+use rules::limits::ROWS_LENT;
 use txn::Managed;
 
 // What a call on the manager did, in the books.
@@ -32,11 +34,11 @@ fn kept(state: State, done: Managed) -> Kept
     }
 }
 
-// A call on the manager. Each arm hands the manager to the call itself and keeps what it did: no copy lies between.
-pub fn manage_core(state: State, t: Table, n: usize, m: usize, call: ManagerCall) -> Kept
-    ensures { λ r. ⌜ r ≡ managerKept state t n m call ⌝ }
+// A call on the manager; rest says whether the rest of the store is sound. Each arm hands the manager to the call
+// itself and keeps what it did: no copy lies between.
+pub fn manage_core(state: State, rest: bool, call: ManagerCall) -> Kept
+    ensures { λ r. ⌜ r ≡ managerKept state rest call ⌝ }
 {
-    let rest = sound::rest_ok(state, t, n, m);
     match call {
         ManagerCall::Begin => kept(state, txn_start::begin(state.manager, rest)),
         ManagerCall::Commit { txn } => kept(
@@ -53,6 +55,24 @@ pub fn manage_core(state: State, t: Table, n: usize, m: usize, call: ManagerCall
             txn_safe::advance_lse(state.manager, rest, target),
         ),
     }
+}
+
+// The manager's part of rolling back transaction i.
+pub fn roll_back_core(state: State, rest: bool, i: u64) -> Managed
+    ensures { λ r. ⌜ r ≡ rollBackManaged state rest i ⌝ }
+{
+    txn_close::close_txn(state.manager, rest, i, false)
+}
+
+// An accepted call goes on to the lots.
+pub fn goes_on(done: Managed) -> bool
+    ensures { λ r. ⌜ r ≡ accepted (done .answer) ⌝ }
+{
+    let answer = done.answer;
+    if let Answer::Refused(_) = answer {
+        return false;
+    }
+    true
 }
 
 // Partition p starts empty in area p, and area 8 is spare.
@@ -77,10 +97,20 @@ pub(crate) fn fresh() -> Partitions
     }
 }
 
-pub fn create_core(state: State, t: Table, n: usize, m: usize, a: u64) -> Kept
-    ensures { λ r. ⌜ r ≡ createKept state t n m a ⌝ }
+// n entries and m rows are lent.
+fn lengths_ok(n: usize, m: usize) -> bool
+    ensures { λ r. ⌜ r ≡ lengthsAre n m ⌝ }
 {
-    if !sound::lengths_ok(n, m) {
+    if m != ROWS_LENT {
+        return false;
+    }
+    n == ENTRIES_LENT
+}
+
+pub fn create_core(state: State, n: usize, m: usize, a: u64) -> Kept
+    ensures { λ r. ⌜ r ≡ createKept state n m a ⌝ }
+{
+    if !lengths_ok(n, m) {
         return Kept {
             answer: Answer::Refused(Refusal::Unsound),
             state: state,

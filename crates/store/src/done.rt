@@ -1,38 +1,50 @@
-// What a call answers and keeps, of its plan.
+// What a call answers and keeps, of the books and its plan.
 ghost use mathlib.Core.Path.{_≡_};
 ghost use Rattle.store.specs.Done.{doneWrite, donePurge, doneRollBack};
 use crate::Kept;
+use partition::areas;
 use plan_purge::Purge;
-use plan_rollback::RollBack;
 use plan_write::Write;
+use rules::Partitions;
+use rules::State;
+use txn::Managed;
 
-pub fn write_done(w: Write) -> Kept
-    ensures { λ r. ⌜ r ≡ doneWrite w ⌝ }
+pub fn write_done(state: State, w: Write) -> Kept
+    ensures { λ r. ⌜ r ≡ doneWrite state w ⌝ }
 {
+    let next = areas::with_partition(state.partitions, w.place, w.partition);
+    let mut after = state;
+    after.partitions = next;
     let answer = w.answer;
-    let state = w.state;
     Kept {
         answer: answer,
-        state: state,
+        state: after,
     }
 }
 
-pub fn purge_done(w: Purge) -> Kept
-    ensures { λ r. ⌜ r ≡ donePurge w ⌝ }
+pub fn purge_done(state: State, w: Purge) -> Kept
+    ensures { λ r. ⌜ r ≡ donePurge state w ⌝ }
 {
+    let next = areas::moved(state.partitions, w.place, w.rows, w.new.count);
+    let mut after = state;
+    after.partitions = next;
     let answer = w.answer;
-    let state = w.state;
     Kept {
         answer: answer,
-        state: state,
+        state: after,
     }
 }
 
-pub fn roll_back_done(w: RollBack) -> Kept
-    ensures { λ r. ⌜ r ≡ doneRollBack w ⌝ }
+// The manager after a roll back, and the partitions that the lots' part left.
+pub fn roll_back_done(done: Managed, partitions: Partitions) -> Kept
+    ensures { λ r. ⌜ r ≡ doneRollBack done partitions ⌝ }
 {
-    let answer = w.answer;
-    let state = w.state;
+    let manager = done.manager;
+    let answer = done.answer;
+    let state = State {
+        manager: manager,
+        partitions: partitions,
+    };
     Kept {
         answer: answer,
         state: state,

@@ -1,6 +1,6 @@
 // The store: one public function for the calls on the manager, and one for each other call of 01. The books are kept by
-// value, the areas of rows and of entries are lent. Each call loads the entries, decides by value, then writes; what it
-// answers and leaves is rules' step.
+// value, the areas of rows and of entries are lent. Each call asks whether the lots are sound, loads what it needs of
+// one lot, decides by value, then writes; what it answers and leaves is rules' step.
 ghost use mathlib.Core.Path.{_≡_};
 ghost use Rattle.rules.specs.Store.{createdState};
 ghost use Rattle.rules.specs.Step.{step, manage, append, clear, rollback, create, scan, purge};
@@ -13,6 +13,7 @@ use rules::State;
 
 mod books;
 mod done;
+pub mod part;
 
 // What a call answers, and the books after it.
 pub struct Kept {
@@ -39,8 +40,7 @@ pub fn create(state: State, entries: &[Entry], rows: &[u64], a: u64) -> Kept
 {
     let n = entries.len();
     let m = rows.len();
-    let t = lent::load_all(entries);
-    books::create_core(state, t, n, m, a)
+    books::create_core(state, n, m, a)
 }
 
 // The calls that change nothing but the manager. Refusals, in this order: begin 5, 6, 7; commit 5, 2; opening a page
@@ -49,10 +49,10 @@ pub fn manage(state: State, entries: &[Entry], rows: &[u64], call: ManagerCall) 
     ensures { λ r. ⌜ Left (step (manage call) (storeOf state (now (rows .entry)) (now (entries .entry))))
         r (now (rows .entry)) (now (entries .entry)) ⌝ }
 {
-    let n = entries.len();
     let m = rows.len();
-    let t = lent::load_all(entries);
-    books::manage_core(state, t, n, m, call)
+    let a = partition_sound::ask(state.manager.clock, state.manager.writers, state.partitions);
+    let rest = partition_sound::rest_ok(entries, m, a);
+    books::manage_core(state, rest, call)
 }
 
 // The rows of batch to partition p (01: lot), by transaction txn (01: load). Refusals, in this order: 5, 1, 2, 8, 9.
@@ -70,11 +70,13 @@ pub fn append(
     let n = entries.len();
     let m = rows.len();
     let k = batch.len();
-    let t = lent::load_all(entries);
-    let w = plan_write::append_core(state, t, n, m, k, txn, p);
+    let a = partition_sound::ask(state.manager.clock, state.manager.writers, state.partitions);
+    let rest = partition_sound::rest_ok(entries, m, a);
+    let last = area::last_entry(entries, state.partitions, p);
+    let w = plan_write::append_core(state, rest, last, n, m, k, txn, p);
     plan_write::put_write(entries, w);
     plan_write::write_rows(rows, batch, w);
-    done::write_done(w)
+    done::write_done(state, w)
 }
 
 // A clearing of partition p by transaction txn. Refusals, in this order: 5, 1, 2, 9.
@@ -84,11 +86,12 @@ pub fn clear(state: State, entries: &mut [Entry], rows: &mut [u64], txn: u64, p:
 {
     let n = entries.len();
     let m = rows.len();
-    let t = lent::load_all(entries);
-    let w = plan_write::clear_core(state, t, n, m, txn, p);
+    let a = partition_sound::ask(state.manager.clock, state.manager.writers, state.partitions);
+    let rest = partition_sound::rest_ok(entries, m, a);
+    let w = plan_write::clear_core(state, rest, n, m, txn, p);
     plan_write::put_write(entries, w);
     plan_write::keep_rows(rows, w);
-    done::write_done(w)
+    done::write_done(state, w)
 }
 
 // Rolling back transaction a in all partitions. Refusals, in this order: 5, 2.
@@ -96,13 +99,13 @@ pub fn roll_back(state: State, entries: &mut [Entry], rows: &mut [u64], a: u64) 
     ensures { λ r. ⌜ Left (step (rollback a) (storeOf state (now (rows .entry)) (now (entries .entry))))
         r (now (rows .exit)) (now (entries .exit)) ⌝ }
 {
-    let n = entries.len();
     let m = rows.len();
-    let t = lent::load_all(entries);
-    let w = plan_rollback::roll_back_core(state, t, n, m, a);
-    plan_rollback::put_roll_back(entries, w);
-    plan_rollback::roll_back_rows(rows, w);
-    done::roll_back_done(w)
+    let asked = partition_sound::ask(state.manager.clock, state.manager.writers, state.partitions);
+    let rest = partition_sound::rest_ok(entries, m, asked);
+    let done = books::roll_back_core(state, rest, a);
+    let go = books::goes_on(done);
+    let partitions = undo::lots::roll_lots(entries, rows, state.partitions, a, go);
+    done::roll_back_done(done, partitions)
 }
 
 // Transaction i scans partition p: a bit a row in bitmap. Refusals, in this order: 5, 1, 2, 3.
@@ -118,11 +121,12 @@ pub fn scan_rw(
         (now (entries .entry)))) r (now (bitmap .exit)) (storeOf state (now (rows .entry))
         (now (entries .entry))) ⌝ }
 {
-    let n = entries.len();
     let m = rows.len();
     let k = bitmap.len();
-    let l = lent::load_all(entries);
-    let w = plan_scan::rw_core(state, l, n, m, k, i, p);
+    let a = partition_sound::ask(state.manager.clock, state.manager.writers, state.partitions);
+    let rest = partition_sound::rest_ok(entries, m, a);
+    let lot = area::load(entries, state.partitions, p);
+    let w = plan_scan::rw_core(state, rest, lot, k, i, p);
     plan_scan::write_bits(bitmap, w);
     plan_scan::look_done(w)
 }
@@ -140,25 +144,28 @@ pub fn scan_ro(
         (now (entries .entry)))) r (now (bitmap .exit)) (storeOf state (now (rows .entry))
         (now (entries .entry))) ⌝ }
 {
-    let n = entries.len();
     let m = rows.len();
     let k = bitmap.len();
-    let l = lent::load_all(entries);
-    let w = plan_scan::ro_core(state, l, n, m, k, t, p);
+    let a = partition_sound::ask(state.manager.clock, state.manager.writers, state.partitions);
+    let rest = partition_sound::rest_ok(entries, m, a);
+    let lot = area::load(entries, state.partitions, p);
+    let w = plan_scan::ro_core(state, rest, lot, k, t, p);
     plan_scan::write_bits(bitmap, w);
     plan_scan::look_done(w)
 }
 
-// Purging partition p at LSE. Refusals, in this order: 5, 1. live_part::in_force returns the part in force.
+// Purging partition p at LSE. Refusals, in this order: 5, 1. part::live_rows returns the part in force.
 pub fn purge(state: State, entries: &mut [Entry], rows: &mut [u64], p: u64) -> Kept
     ensures { λ r. ⌜ Left (step (purge p) (storeOf state (now (rows .entry)) (now (entries .entry))))
         r (now (rows .exit)) (now (entries .exit)) ⌝ }
 {
     let n = entries.len();
     let m = rows.len();
-    let t = lent::load_all(entries);
-    let w = plan_purge::purge_core(state, t, n, m, p);
+    let a = partition_sound::ask(state.manager.clock, state.manager.writers, state.partitions);
+    let rest = partition_sound::rest_ok(entries, m, a);
+    let lot = area::load(entries, state.partitions, p);
+    let w = plan_purge::purge_core(state, rest, lot, n, m, p);
     plan_purge::put_purge(entries, w);
     plan_purge::purge_rows(rows, w);
-    done::purge_done(w)
+    done::purge_done(state, w)
 }

@@ -2,10 +2,17 @@
 // Each call is answered by 01's refusals in 01's order, and a refusal hands the manager back as it was. rest says
 // whether the rest of the store is sound; the manager's own soundness is tested by is_sound.
 use rules::Answer;
+use rules::Clock;
 use rules::Manager;
 use rules::Refusal;
+use rules::RoTxns;
+use rules::RwTxns;
 ghost use mathlib.Core.Bool.{_&&_};
 ghost use mathlib.Core.Path.{_≡_};
+ghost use lib.Dec.{eqb};
+ghost use lib.ListN.{length};
+ghost use Rattle.rules.specs.Limits.{depsAll};
+ghost use Rattle.rules.specs.Manager.{managerWith};
 ghost use Rattle.rules.specs.WellFormed.{managerOk};
 ghost use Rattle.txn.specs.Managed.{refusedWith};
 
@@ -28,7 +35,19 @@ pub fn is_sound(m: Manager, rest: bool) -> bool
     ensures { λ r. ⌜ r ≡ rest && managerOk m ⌝ }
 {
     if rest {
-        return txn_sound::manager_ok(m);
+        txn_sound::manager_ok(m)
+    } else {
+        false
     }
-    false
+}
+
+// The same of a manager's parts, its table of deps lent: nothing large is handed over.
+pub fn parts_sound(rest: bool, c: Clock, ts: RwTxns, deps: &[u64], ps: RoTxns) -> bool
+    ensures { λ r. ⌜ r ≡ (rest && (eqb (length (now (deps .entry))) depsAll
+        && managerOk (managerWith c ts (now (deps .entry)) ps))) ⌝ }
+{
+    if !rest {
+        return false;
+    }
+    txn_sound::parts_ok(c, ts, deps, ps)
 }

@@ -1,2 +1,3 @@
-pub mod Settle
 pub mod Close
+pub mod Rows
+pub mod Settle

@@ -1,25 +1,27 @@
 // Close, then settle LCE. 01 "The books", Commit, roll back; 004 III-B "LCE".
 use places::in_use;
-use rules::Manager;
+use rules::Clock;
 use rules::RwTxn;
 use rules::RwTxns;
+use rules::limits::DEPS_ALL;
+use rules::limits::DEPS_MAX;
 use rules::limits::WRITERS_MAX;
-use txn_find::no_deps;
 use txn_find::no_rw;
-ghost use mathlib.Core.Bool.{true, false};
 ghost use mathlib.Core.Path.{_≡_};
-ghost use Prim.Native.Nat.{_≤_};
-ghost use lib.ListN.{take};
-ghost use Rattle.lists.specs.Lists.{pad};
-ghost use Rattle.rules.specs.Limits.{writersMax};
-ghost use Rattle.rules.specs.Manager.{noRw, writersOf};
-ghost use Rattle.rules.specs.Close.{settled};
-ghost use Rattle.txn.specs.Records.{cut, writersWith, Tidy};
-ghost use Rattle.txn_close.specs.Close.{reachOf, Closable, closedAt, RisingOf};
+ghost use mathlib.Core.List.{[], map};
+ghost use Prim.Native.Nat.{suc, _+_, _≤_, _<_};
+ghost use lib.ListN.{length, take, drop, set, replicate};
+ghost use Rattle.lists.specs.Lists.{over, pad};
+ghost use Rattle.rules.specs.Limits.{writersMax, depsMax, depsAll};
+ghost use Rattle.rules.specs.Manager.{noRw, view, withLce};
+ghost use Rattle.rules.specs.Close.{waitingTxn};
+ghost use Rattle.txn.specs.Records.{cut, writersWith, tableWith, viewed, Tidy};
+ghost use Rattle.txn_close.specs.Close.{lead, runLce, reachOf, booksWith, closedTxns};
 
-// The manager as its calls change it by value (01: the books, without the lots).
+// What a close changes beside the table of deps, which is lent (01: the books, without the lots).
 pub struct Books {
-    pub manager: Manager,
+    pub clock: Clock,
+    pub writers: RwTxns,
 }
 
 // LCE once settled, and how many records wait no longer.
@@ -30,7 +32,7 @@ struct Reached {
 
 // The records that wait before the first open one.
 fn reach(ts: RwTxns, lce: u64) -> Reached
-    ensures { λ r. ⌜ r ≡ reachOf lce (take (ts .count) (ts .at)) ⌝ }
+    ensures { λ r. ⌜ r ≡ reachOf lce (map (view []) (take (ts .count) (ts .at))) ⌝ }
 {
     let n = in_use(ts.count, WRITERS_MAX);
     let mut last = lce;
@@ -55,7 +57,8 @@ fn reach(ts: RwTxns, lce: u64) -> Reached
 fn cut_writers(ts: RwTxns, a: usize, b: usize) -> RwTxns
     requires { ⌜ (a ≤ b) × (b ≤ ts .count) × (ts .count ≤ writersMax) ⌝ }
     requires { ⌜ ts .at ≡ pad writersMax noRw (take (ts .count) (ts .at)) ⌝ }
-    ensures { λ r. ⌜ r ≡ writersWith (cut a b (take (ts .count) (ts .at))) ⌝ }
+    ensures { λ r. ⌜ (r .at ≡ pad writersMax noRw (cut a b (take (ts .count) (ts .at))))
+        × (r .count ≡ length (cut a b (take (ts .count) (ts .at)))) ⌝ }
 {
     let n = ts.count;
     let gap = b - a;
@@ -77,50 +80,110 @@ fn cut_writers(ts: RwTxns, a: usize, b: usize) -> RwTxns
     }
 }
 
+// The first n words of the table without those from word a up to word b.
+fn cut_words(deps: &mut [u64; DEPS_ALL], a: usize, b: usize, n: usize)
+    requires { ⌜ (a ≤ b) × (b ≤ n) × (n ≤ depsAll) × (length (now deps) ≡ depsAll) ⌝ }
+    requires { ⌜ now deps ≡ pad depsAll 0 (take n (now deps)) ⌝ }
+    ensures { λ _. ⌜ now (deps .exit) ≡ pad depsAll 0 (cut a b (take n (now (deps .entry)))) ⌝ }
+{
+    let gap = b - a;
+    let end = n - gap;
+    let mut j = a;
+    while j < end {
+        let w = deps[j + gap];
+        deps[j] = w;
+        j += 1;
+    }
+    while j < n {
+        deps[j] = 0;
+        j += 1;
+    }
+}
+
+// A row of the table, 0.
+fn zero_row(deps: &mut [u64; DEPS_ALL], from: usize)
+    requires { ⌜ (from + depsMax ≤ depsAll) × (length (now deps) ≡ depsAll) ⌝ }
+    ensures { λ _. ⌜ now (deps .exit) ≡ over from (replicate depsMax 0) (now (deps .entry)) ⌝ }
+{
+    let mut k: usize = 0;
+    while k < DEPS_MAX {
+        deps[from + k] = 0;
+        k += 1;
+    }
+}
+
 impl Books {
     // Committed: the transaction of epoch i, at place j, waits and drops its deps.
-    pub(crate) fn closed_waiting(self, j: usize, i: u64) -> Books
-        requires { ⌜ Closable (self .manager) j ⌝ }
-        ensures { λ r. ⌜ r .manager ≡ closedAt true j i (self .manager) ⌝ }
+    fn closed_waiting(self, deps: &mut [u64; DEPS_ALL], j: usize, i: u64) -> Books
+        requires { ⌜ Tidy (self .writers) (now deps) ⌝ }
+        requires { ⌜ j < self .writers .count ⌝ }
+        ensures { λ r. ⌜ (let ws = set (viewed (self .writers) (now (deps .entry))) j (waitingTxn i) in
+            (r ≡ booksWith (self .clock) ws) × (now (deps .exit) ≡ tableWith ws)) ⌝ }
     {
-        let m = self.manager;
-        let d = no_deps();
-        let mut ts = m.writers;
+        zero_row(deps, DEPS_MAX * j);
+        let clock = self.clock;
+        let mut ts = self.writers;
         ts.at[j] = RwTxn {
             epoch: i,
             waiting: 1,
-            deps: d,
+            deps: 0,
         };
-        let mut next = m;
-        next.writers = ts;
-        Books { manager: next }
+        Books {
+            clock: clock,
+            writers: ts,
+        }
     }
 
     // Rolled back: the transaction at place j has no place any more.
-    pub(crate) fn closed_dropped(self, j: usize, i: u64) -> Books
-        requires { ⌜ Closable (self .manager) j ⌝ }
-        ensures { λ r. ⌜ r .manager ≡ closedAt false j i (self .manager) ⌝ }
+    fn closed_dropped(self, deps: &mut [u64; DEPS_ALL], j: usize) -> Books
+        requires { ⌜ Tidy (self .writers) (now deps) ⌝ }
+        requires { ⌜ j < self .writers .count ⌝ }
+        ensures { λ r. ⌜ (let ws = cut j (suc j) (viewed (self .writers) (now (deps .entry))) in
+            (r ≡ booksWith (self .clock) ws) × (now (deps .exit) ≡ tableWith ws)) ⌝ }
     {
-        let m = self.manager;
-        let ts = cut_writers(m.writers, j, j + 1);
-        let mut next = m;
-        next.writers = ts;
-        Books { manager: next }
+        let n = self.writers.count;
+        cut_words(deps, DEPS_MAX * j, DEPS_MAX * (j + 1), DEPS_MAX * n);
+        let ts = cut_writers(self.writers, j, j + 1);
+        let clock = self.clock;
+        Books {
+            clock: clock,
+            writers: ts,
+        }
+    }
+
+    // The transaction of epoch i, at place j, is closed: committed it waits, rolled back it leaves no record.
+    pub(crate) fn close(self, deps: &mut [u64; DEPS_ALL], j: usize, i: u64, waits: bool) -> Books
+        requires { ⌜ Tidy (self .writers) (now deps) ⌝ }
+        requires { ⌜ j < self .writers .count ⌝ }
+        ensures { λ r. ⌜ (let ws = closedTxns waits j i (viewed (self .writers) (now (deps .entry))) in
+            (r ≡ booksWith (self .clock) ws) × (now (deps .exit) ≡ tableWith ws)) ⌝ }
+    {
+        if waits {
+            return self.closed_waiting(deps, j, i);
+        }
+        self.closed_dropped(deps, j)
     }
 
     // LCE is settled, and what it has reached waits no longer.
-    pub(crate) fn settled(self) -> Books
-        requires { ⌜ self .manager .writers .count ≤ writersMax ⌝ }
-        requires { ⌜ Tidy (self .manager) ⌝ }
-        requires { ⌜ RisingOf (self .manager) ⌝ }
-        ensures { λ r. ⌜ r .manager ≡ settled (writersOf (self .manager)) (self .manager) ⌝ }
+    pub(crate) fn settle(self, deps: &mut [u64; DEPS_ALL]) -> Books
+        requires { ⌜ Tidy (self .writers) (now deps) ⌝ }
+        ensures { λ r. ⌜ (let ws = viewed (self .writers) (now (deps .entry)) in
+            (r ≡ booksWith (withLce (runLce (self .clock .lce) ws) (self .clock)) (drop (lead ws) ws))
+            × (now (deps .exit) ≡ tableWith (drop (lead ws) ws))) ⌝ }
     {
-        let m = self.manager;
-        let reached = reach(m.writers, m.clock.lce);
-        let ts = cut_writers(m.writers, 0, reached.count);
-        let mut next = m;
-        next.writers = ts;
-        next.clock.lce = reached.lce;
-        Books { manager: next }
+        let reached = reach(self.writers, self.clock.lce);
+        let k = reached.count;
+        if k == 0 {
+            return self;
+        }
+        let n = self.writers.count;
+        cut_words(deps, 0, DEPS_MAX * k, DEPS_MAX * n);
+        let ts = cut_writers(self.writers, 0, k);
+        let mut clock = self.clock;
+        clock.lce = reached.lce;
+        Books {
+            clock: clock,
+            writers: ts,
+        }
     }
 }

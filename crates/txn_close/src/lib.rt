@@ -6,7 +6,7 @@ use rules::Answer;
 use rules::Manager;
 use rules::Refusal;
 use txn::Managed;
-use txn::is_sound;
+use txn::parts_sound;
 use txn::refused;
 use txn_find::Found;
 use txn_find::find_writer;
@@ -15,41 +15,35 @@ ghost use mathlib.Core.Path.{_≡_};
 ghost use Rattle.rules.specs.WellFormed.{managerOk};
 ghost use Rattle.rules.specs.Calls.{closeAnswer};
 ghost use Rattle.txn.specs.Managed.{managed};
-ghost use Rattle.txn_close.specs.Close.{closedTo, closedManager};
+ghost use Rattle.txn_close.specs.Close.{closedManager};
 
-// The answer, and the manager that the books leave.
-fn answered(books: Books) -> Managed
-    ensures { λ r. ⌜ r ≡ closedTo (books .manager) ⌝ }
-{
-    let next = books.manager;
-    Managed {
-        answer: Answer::Closed {
-            lce: next.clock.lce,
-        },
-        manager: next,
-    }
-}
-
-// Commit (waits) and roll back: the transaction of epoch i is closed, and waits, or leaves no record. The first record
-// is open, so LCE moves only where that one is closed. Refusals, in this order: 5, 2.
+// Commit (waits) and roll back: the transaction of epoch i is closed, and waits, or leaves no record; then LCE is
+// settled. Refusals, in this order: 5, 2.
 pub fn close_txn(m: Manager, rest: bool, i: u64, waits: bool) -> Managed
     ensures { λ r. ⌜ (let next = closedManager waits i m in
         r ≡ managed (closeAnswer i (rest && managerOk m) m next) next m) ⌝ }
 {
-    if !is_sound(m, rest) {
-        return refused(m, Refusal::Unsound);
+    let mut s = m;
+    if !parts_sound(rest, s.clock, s.writers, &s.deps, s.readers) {
+        return refused(s, Refusal::Unsound);
     }
-    let Found::At(j) = find_writer(m.writers, i) else {
-        return refused(m, Refusal::NotOpen);
+    let Found::At(j) = find_writer(s.writers, i) else {
+        return refused(s, Refusal::NotOpen);
     };
-    let books = Books { manager: m };
-    let closed = if waits {
-        books.closed_waiting(j, i)
-    } else {
-        books.closed_dropped(j, i)
+    let clock = s.clock;
+    let writers = s.writers;
+    let books = Books {
+        clock: clock,
+        writers: writers,
     };
-    if 0 < j {
-        return answered(closed);
+    let closed = books.close(&mut s.deps, j, i, waits);
+    let next = closed.settle(&mut s.deps);
+    let c = next.clock;
+    let ts = next.writers;
+    s.clock = c;
+    s.writers = ts;
+    Managed {
+        answer: Answer::Closed { lce: c.lce },
+        manager: s,
     }
-    answered(closed.settled())
 }

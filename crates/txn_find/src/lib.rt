@@ -1,7 +1,5 @@
 // Where a transaction stands in the manager. 01 "Refusals that come from the input", 2.
 use places::in_use;
-use rules::Deps;
-use rules::Manager;
 use rules::RoTxn;
 use rules::RoTxns;
 use rules::RwTxn;
@@ -12,9 +10,8 @@ use rules::limits::WRITERS_MAX;
 ghost use mathlib.Core.Path.{_≡_};
 ghost use mathlib.Core.Bool.{_&&_};
 ghost use lib.Dec.{eqb};
-ghost use Rattle.lists.specs.Lists.{firstOf};
-ghost use Rattle.rules.specs.Manager.{opens, noRw, noRo, noDeps, writersOf, hasOpen, hasReader, epochAt};
-ghost use Rattle.txn_find.specs.Find.{writerAt, readerAt};
+ghost use Rattle.rules.specs.Manager.{noRw, noRo};
+ghost use Rattle.txn_find.specs.Find.{writerAt, readerAt, rowAt};
 
 // The place of a record, or that there is none.
 pub enum Found {
@@ -59,25 +56,14 @@ pub fn find_reader(ps: RoTxns, t: u64) -> Found
     Found::Nothing
 }
 
-// What stands in the deps of an unused place.
-pub fn no_deps() -> Deps
-    ensures { λ r. ⌜ r ≡ noDeps ⌝ }
-{
-    Deps {
-        at: [0; DEPS_MAX],
-        count: 0,
-    }
-}
-
 // What stands in an unused place.
 pub fn no_rw() -> RwTxn
     ensures { λ r. ⌜ r ≡ noRw ⌝ }
 {
-    let d = no_deps();
     RwTxn {
         epoch: 0,
         waiting: 0,
-        deps: d,
+        deps: 0,
     }
 }
 
@@ -90,45 +76,14 @@ pub fn no_ro() -> RoTxn
     }
 }
 
-pub fn has_open(m: Manager, i: u64) -> bool
-    ensures { λ r. ⌜ r ≡ hasOpen i m ⌝ }
+// The first n words of row j of the table of deps, none where the table has no such row.
+pub fn row_of(deps: &[u64], j: usize, n: usize) -> &[u64]
+    ensures { λ r. ⌜ now r ≡ rowAt n j (now (deps .entry)) ⌝ }
 {
-    if let Found::At(_) = find_writer(m.writers, i) {
-        true
-    } else {
-        false
+    let from = DEPS_MAX * in_use(j, WRITERS_MAX);
+    if deps.len() < from {
+        return &deps[..0];
     }
-}
-
-// The deps of the open transaction of epoch i, none where there is no such transaction.
-pub fn deps_at(m: Manager, i: u64) -> Deps
-    ensures { λ r. ⌜ r ≡ firstOf (opens i) noRw (writersOf m) .deps ⌝ }
-{
-    let ts = m.writers;
-    let Found::At(j) = find_writer(ts, i) else {
-        return no_deps();
-    };
-    let t = ts.at[j];
-    t.deps
-}
-
-pub fn has_reader(m: Manager, t: u64) -> bool
-    ensures { λ r. ⌜ r ≡ hasReader t m ⌝ }
-{
-    if let Found::At(_) = find_reader(m.readers, t) {
-        true
-    } else {
-        false
-    }
-}
-
-// The epoch of the read-only transaction of ticket t, 0 where there is no such transaction.
-pub fn epoch_at(m: Manager, t: u64) -> u64
-    ensures { λ r. ⌜ r ≡ epochAt t m ⌝ }
-{
-    let ps = m.readers;
-    let Found::At(j) = find_reader(ps, t) else {
-        return 0;
-    };
-    ps.at[j].epoch
+    let end = from + in_use(in_use(n, DEPS_MAX), deps.len() - from);
+    &deps[from..end]
 }

@@ -2,45 +2,45 @@
 use epoch::predecessor;
 use places::in_use;
 use rules::Answer;
-use rules::Deps;
+use rules::Clock;
 use rules::Manager;
 use rules::Refusal;
 use rules::RoTxns;
 use rules::RwTxns;
-use rules::limits::DEPS_MAX;
 use rules::limits::READERS_MAX;
 use rules::limits::WRITERS_MAX;
 use txn::Managed;
-use txn::is_sound;
-use txn::refused;
-ghost use mathlib.Core.Bool.{_&&_};
+use txn::parts_sound;
+use txn_find::row_of;
+ghost use mathlib.Core.Bool.{_&&_, _||_};
 ghost use mathlib.Core.List.{map, foldr};
 ghost use mathlib.Core.Path.{_≡_};
 ghost use Prim.Native.Nat.{min, _-_};
 ghost use lib.Dec.{ltb};
 ghost use lib.ListN.{take};
 ghost use Rattle.lists.specs.Lists.{anyOf, gather};
-ghost use Rattle.rules.specs.Safe.{blocked, greatestTarget, advancedManager};
+ghost use Rattle.rules.specs.Manager.{managerWith};
+ghost use Rattle.rules.specs.Safe.{greatestTarget, advancedManager};
 ghost use Rattle.rules.specs.WellFormed.{managerOk};
 ghost use Rattle.rules.specs.Calls.{advanceLseAnswer};
 ghost use Rattle.txn.specs.Managed.{managed};
-ghost use Rattle.txn_safe.specs.Safe.{depBlocks, underDeps, movedTo};
+ghost use Rattle.txn.specs.Records.{viewed};
+ghost use Rattle.txn_safe.specs.Safe.{depBlocks, underDeps};
 
 // 01: held. An open transaction has an epoch at or below t in its deps, closed since or not.
-fn dep_blocks(ts: RwTxns, t: u64) -> bool
-    ensures { λ r. ⌜ r ≡ anyOf (depBlocks t) (take (ts .count) (ts .at)) ⌝ }
+fn dep_blocks(ts: RwTxns, deps: &[u64], t: u64) -> bool
+    ensures { λ r. ⌜ r ≡ anyOf (depBlocks t) (viewed ts (now (deps .entry))) ⌝ }
 {
     let n = in_use(ts.count, WRITERS_MAX);
     let mut held = false;
     let mut i: usize = 0;
     'writers: while i < n {
-        if ts.at[i].waiting == 0 {
-            let x = ts.at[i];
-            let ds = x.deps;
-            let k = in_use(ds.count, DEPS_MAX);
+        let x = ts.at[i];
+        if x.waiting == 0 {
+            let row = row_of(deps, i, x.deps);
             let mut j: usize = 0;
-            while j < k {
-                if ds.at[j] <= t {
+            while j < row.len() {
+                if row[j] <= t {
                     held = true;
                     break 'writers;
                 }
@@ -67,13 +67,14 @@ fn reader_blocks(ps: RoTxns, t: u64) -> bool
     false
 }
 
-pub fn is_blocked(m: Manager, t: u64) -> bool
-    ensures { λ r. ⌜ r ≡ blocked t m ⌝ }
+fn is_blocked(ts: RwTxns, deps: &[u64], ps: RoTxns, t: u64) -> bool
+    ensures { λ r. ⌜ r ≡ (anyOf (λ p. ltb (p .epoch) t) (take (ps .count) (ps .at))
+        || anyOf (depBlocks t) (viewed ts (now (deps .entry)))) ⌝ }
 {
-    if reader_blocks(m.readers, t) {
+    if reader_blocks(ps, t) {
         return true;
     }
-    dep_blocks(m.writers, t)
+    dep_blocks(ts, deps, t)
 }
 
 fn lower(a: u64, b: u64) -> u64
@@ -96,32 +97,31 @@ fn under_readers(ps: RoTxns, top: u64) -> u64
     low
 }
 
-// The lowest of top and just below each dep.
-fn under_deps(ds: Deps, top: u64) -> u64
-    ensures { λ r. ⌜ r ≡ foldr min top (map (λ d. d - 1) (take (ds .count) (ds .at))) ⌝ }
+// The lowest of top and just below each dep of one transaction.
+fn under_row(row: &[u64], top: u64) -> u64
+    ensures { λ r. ⌜ r ≡ foldr min top (map (λ d. d - 1) (now (row .entry))) ⌝ }
 {
-    let k = in_use(ds.count, DEPS_MAX);
     let mut low = top;
     let mut j: usize = 0;
-    while j < k {
-        low = lower(low, predecessor(ds.at[j]));
+    while j < row.len() {
+        low = lower(low, predecessor(row[j]));
         j += 1;
     }
     low
 }
 
 // The lowest of top and just below each dep of an open transaction.
-fn under_writers(ts: RwTxns, top: u64) -> u64
-    ensures { λ r. ⌜ r ≡ foldr min top (gather underDeps (take (ts .count) (ts .at))) ⌝ }
+fn under_writers(ts: RwTxns, deps: &[u64], top: u64) -> u64
+    ensures { λ r. ⌜ r ≡ foldr min top (gather underDeps (viewed ts (now (deps .entry)))) ⌝ }
 {
     let n = in_use(ts.count, WRITERS_MAX);
     let mut low = top;
     let mut i: usize = 0;
     while i < n {
-        if ts.at[i].waiting == 0 {
-            let x = ts.at[i];
-            let ds = x.deps;
-            low = under_deps(ds, low);
+        let x = ts.at[i];
+        if x.waiting == 0 {
+            let row = row_of(deps, i, x.deps);
+            low = under_row(row, low);
         }
         i += 1;
     }
@@ -129,41 +129,36 @@ fn under_writers(ts: RwTxns, top: u64) -> u64
 }
 
 // The greatest target that is not blocked.
-pub fn greatest(m: Manager) -> u64
-    ensures { λ r. ⌜ r ≡ greatestTarget m ⌝ }
+fn greatest(c: Clock, ts: RwTxns, deps: &[u64], ps: RoTxns) -> u64
+    ensures { λ r. ⌜ r ≡ greatestTarget (managerWith c ts (now (deps .entry)) ps) ⌝ }
 {
-    under_readers(m.readers, under_writers(m.writers, m.clock.lce))
-}
-
-fn moved_to(m: Manager, t: u64) -> Managed
-    ensures { λ r. ⌜ r ≡ movedTo t m ⌝ }
-{
-    let mut next = m;
-    next.clock.lse = t;
-    Managed {
-        answer: Answer::AdvancedLse { lse: t },
-        manager: next,
-    }
+    under_readers(ps, under_writers(ts, deps, c.lce))
 }
 
 // Moving LSE to t; the value 0 means as far as it may go, which is never refused. Refusals, in this order: 5, 4, 10.
 pub fn advance_lse(m: Manager, rest: bool, t: u64) -> Managed
     ensures { λ r. ⌜ r ≡ managed (advanceLseAnswer t (rest && managerOk m) m) (advancedManager t m) m ⌝ }
 {
-    if !is_sound(m, rest) {
-        return refused(m, Refusal::Unsound);
+    let mut s = m;
+    let mut answer = Answer::Refused(Refusal::Unsound);
+    if parts_sound(rest, s.clock, s.writers, &s.deps, s.readers) {
+        if t == 0 {
+            let to = greatest(s.clock, s.writers, &s.deps, s.readers);
+            s.clock.lse = to;
+            answer = Answer::AdvancedLse { lse: to };
+        } else if t < s.clock.lse {
+            answer = Answer::Refused(Refusal::OutOfRange);
+        } else if s.clock.lce < t {
+            answer = Answer::Refused(Refusal::OutOfRange);
+        } else if is_blocked(s.writers, &s.deps, s.readers, t) {
+            answer = Answer::Refused(Refusal::Blocked);
+        } else {
+            s.clock.lse = t;
+            answer = Answer::AdvancedLse { lse: t };
+        }
     }
-    if t == 0 {
-        return moved_to(m, greatest(m));
+    Managed {
+        answer: answer,
+        manager: s,
     }
-    if t < m.clock.lse {
-        return refused(m, Refusal::OutOfRange);
-    }
-    if m.clock.lce < t {
-        return refused(m, Refusal::OutOfRange);
-    }
-    if is_blocked(m, t) {
-        return refused(m, Refusal::Blocked);
-    }
-    moved_to(m, t)
 }

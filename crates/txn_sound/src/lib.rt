@@ -2,23 +2,23 @@
 use epoch::Epoch;
 use places::in_use;
 use rules::Clock;
-use rules::Deps;
 use rules::Manager;
 use rules::RoTxn;
 use rules::RoTxns;
-use rules::RwTxn;
 use rules::RwTxns;
+use rules::limits::DEPS_ALL;
 use rules::limits::DEPS_MAX;
 use rules::limits::LAST_TICKET;
 use rules::limits::READERS_MAX;
 use rules::limits::WRITERS_MAX;
-ghost use mathlib.Core.Bool.{false, _||_};
+ghost use mathlib.Core.Bool.{_&&_, _||_};
 ghost use mathlib.Core.Path.{_≡_};
 ghost use lib.Dec.{eqb};
-ghost use lib.ListN.{take, drop};
-ghost use Rattle.lists.specs.Lists.{allOf};
-ghost use Rattle.rules.specs.WellFormed.{clockOk, depsOk, unusedRw, unusedRo, writersOk, readersOk, managerOk};
-ghost use Rattle.txn_sound.specs.Sound.{waitsOk, writerOk, writersRanked, readerOk, readersRanked};
+ghost use lib.ListN.{length, drop};
+ghost use Rattle.rules.specs.Limits.{depsAll};
+ghost use Rattle.rules.specs.Manager.{managerWith};
+ghost use Rattle.rules.specs.WellFormed.{zeros, clockOk, managerOk};
+ghost use Rattle.txn_sound.specs.Sound.{waitsOk, rowOk, writersTested, readerOk, readersTested};
 
 fn clock_ok(c: Clock) -> bool
     ensures { λ r. ⌜ r ≡ clockOk c ⌝ }
@@ -37,65 +37,56 @@ fn clock_ok(c: Clock) -> bool
 
 // ---- read-write transactions
 
-// At most DEPS_MAX, rising, and 0 behind them.
-fn deps_ok(t: RwTxn, lse: u64) -> bool
-    ensures { λ r. ⌜ r ≡ depsOk lse t ⌝ }
+// No branch in the loop: the words are joined, and the result is looked at once.
+fn zeros_from(xs: &[u64], from: usize) -> bool
+    ensures { λ r. ⌜ r ≡ zeros (drop from (now (xs .entry))) ⌝ }
 {
-    let ds = t.deps;
-    let n = ds.count;
-    if DEPS_MAX < n {
+    let mut left: u64 = 0;
+    let mut i = from;
+    while i < xs.len() {
+        left = left | xs[i];
+        i += 1;
+    }
+    left == 0
+}
+
+// At most DEPS_MAX, rising, and 0 behind them.
+fn row_ok(row: &[u64], k: usize, lse: u64, epoch: u64) -> bool
+    ensures { λ r. ⌜ r ≡ rowOk lse epoch k (now (row .entry)) ⌝ }
+{
+    if DEPS_MAX < k {
         return false;
     }
+    let n = in_use(k, row.len());
     let mut lo = lse;
     let mut j: usize = 0;
     while j < n {
-        let d = ds.at[j];
+        let d = row[j];
         if d <= lo {
             return false;
         }
-        if t.epoch <= d {
+        if epoch <= d {
             return false;
         }
         lo = d;
         j += 1;
     }
-    while j < DEPS_MAX {
-        if ds.at[j] != 0 {
-            return false;
-        }
-        j += 1;
-    }
-    true
+    zeros_from(row, k)
 }
 
-fn waits_ok(t: RwTxn, seen: bool) -> bool
-    ensures { λ r. ⌜ r ≡ waitsOk seen t ⌝ }
+fn waits_ok(waiting: u64, seen: bool, k: usize) -> bool
+    ensures { λ r. ⌜ r ≡ waitsOk waiting seen k ⌝ }
 {
-    if t.waiting == 0 {
+    if waiting == 0 {
         return true;
     }
-    if t.waiting != 1 {
+    if waiting != 1 {
         return false;
     }
     if !seen {
         return false;
     }
-    t.deps.count == 0
-}
-
-fn writer_ok(t: RwTxn, lo: u64, c: Clock, seen: bool) -> bool
-    ensures { λ r. ⌜ r ≡ writerOk lo c seen t ⌝ }
-{
-    if t.epoch <= lo {
-        return false;
-    }
-    if c.ec <= t.epoch {
-        return false;
-    }
-    if !waits_ok(t, seen) {
-        return false;
-    }
-    deps_ok(t, c.lse)
+    k == 0
 }
 
 fn seen_open(seen: bool, waiting: u64) -> bool
@@ -107,64 +98,49 @@ fn seen_open(seen: bool, waiting: u64) -> bool
     waiting == 0
 }
 
-fn writers_ranked(ts: RwTxns, c: Clock) -> bool
-    ensures { λ r. ⌜ r ≡ writersRanked (c .lce) c false (take (ts .count) (ts .at)) ⌝ }
+// The records in use against those before them and their rows of the table, then what stands behind them.
+fn writers_ok(ts: RwTxns, c: Clock, deps: &[u64]) -> bool
+    ensures { λ r. ⌜ r ≡ writersTested c ts (now (deps .entry)) ⌝ }
 {
-    let n = in_use(ts.count, WRITERS_MAX);
+    let n = ts.count;
+    if deps.len() != DEPS_ALL {
+        return false;
+    }
+    if WRITERS_MAX < n {
+        return false;
+    }
     let mut lo = c.lce;
     let mut seen = false;
     let mut i: usize = 0;
     while i < n {
         let t = ts.at[i];
-        if !writer_ok(t, lo, c, seen) {
+        if t.epoch <= lo {
+            return false;
+        }
+        if c.ec <= t.epoch {
+            return false;
+        }
+        if !waits_ok(t.waiting, seen, t.deps) {
+            return false;
+        }
+        let from = DEPS_MAX * i;
+        if !row_ok(&deps[from..from + DEPS_MAX], t.deps, c.lse, t.epoch) {
             return false;
         }
         lo = t.epoch;
         seen = seen_open(seen, t.waiting);
         i += 1;
     }
-    true
-}
-
-fn unused_rw(t: RwTxn) -> bool
-    ensures { λ r. ⌜ r ≡ unusedRw t ⌝ }
-{
-    if t.epoch != 0 {
-        return false;
-    }
-    if t.waiting != 0 {
-        return false;
-    }
-    if t.deps.count != 0 {
-        return false;
-    }
-    deps_ok(t, 0)
-}
-
-fn writers_unused(ts: RwTxns) -> bool
-    ensures { λ r. ⌜ r ≡ allOf unusedRw (drop (ts .count) (ts .at)) ⌝ }
-{
-    let mut i = ts.count;
+    let mut left: u64 = 0;
     while i < WRITERS_MAX {
         let t = ts.at[i];
-        if !unused_rw(t) {
-            return false;
-        }
+        left = left | t.epoch | t.waiting | (t.deps as u64);
         i += 1;
     }
-    true
-}
-
-fn writers_ok(m: Manager) -> bool
-    ensures { λ r. ⌜ r ≡ writersOk m ⌝ }
-{
-    if WRITERS_MAX < m.writers.count {
+    if left != 0 {
         return false;
     }
-    if !writers_ranked(m.writers, m.clock) {
-        return false;
-    }
-    writers_unused(m.writers)
+    zeros_from(deps, DEPS_MAX * n)
 }
 
 // ---- read-only transactions
@@ -184,10 +160,19 @@ fn reader_ok(p: RoTxn, lo: u64, next: u64, c: Clock) -> bool
     p.epoch <= c.lce
 }
 
-fn readers_ranked(ps: RoTxns, c: Clock) -> bool
-    ensures { λ r. ⌜ r ≡ readersRanked 0 (ps .next) c (take (ps .count) (ps .at)) ⌝ }
+fn readers_ok(ps: RoTxns, c: Clock) -> bool
+    ensures { λ r. ⌜ r ≡ readersTested c ps ⌝ }
 {
-    let n = in_use(ps.count, READERS_MAX);
+    let n = ps.count;
+    if READERS_MAX < n {
+        return false;
+    }
+    if ps.next < 1 {
+        return false;
+    }
+    if LAST_TICKET + 1 < ps.next {
+        return false;
+    }
     let mut lo: u64 = 0;
     let mut i: usize = 0;
     while i < n {
@@ -198,58 +183,31 @@ fn readers_ranked(ps: RoTxns, c: Clock) -> bool
         lo = p.ticket;
         i += 1;
     }
-    true
-}
-
-fn unused_ro(p: RoTxn) -> bool
-    ensures { λ r. ⌜ r ≡ unusedRo p ⌝ }
-{
-    if p.ticket != 0 {
-        return false;
-    }
-    p.epoch == 0
-}
-
-fn readers_unused(ps: RoTxns) -> bool
-    ensures { λ r. ⌜ r ≡ allOf unusedRo (drop (ps .count) (ps .at)) ⌝ }
-{
-    let mut i = ps.count;
+    let mut left: u64 = 0;
     while i < READERS_MAX {
         let p = ps.at[i];
-        if !unused_ro(p) {
-            return false;
-        }
+        left = left | p.ticket | p.epoch;
         i += 1;
     }
-    true
+    left == 0
 }
 
-fn readers_ok(m: Manager) -> bool
-    ensures { λ r. ⌜ r ≡ readersOk m ⌝ }
+// The manager's parts, its table of deps lent; a table of another length is refused.
+pub fn parts_ok(c: Clock, ts: RwTxns, deps: &[u64], ps: RoTxns) -> bool
+    ensures { λ r. ⌜ r ≡ (eqb (length (now (deps .entry))) depsAll
+        && managerOk (managerWith c ts (now (deps .entry)) ps)) ⌝ }
 {
-    if READERS_MAX < m.readers.count {
+    if !clock_ok(c) {
         return false;
     }
-    if m.readers.next < 1 {
+    if !writers_ok(ts, c, deps) {
         return false;
     }
-    if LAST_TICKET + 1 < m.readers.next {
-        return false;
-    }
-    if !readers_ranked(m.readers, m.clock) {
-        return false;
-    }
-    readers_unused(m.readers)
+    readers_ok(ps, c)
 }
 
 pub fn manager_ok(m: Manager) -> bool
     ensures { λ r. ⌜ r ≡ managerOk m ⌝ }
 {
-    if !clock_ok(m.clock) {
-        return false;
-    }
-    if !writers_ok(m) {
-        return false;
-    }
-    readers_ok(m)
+    parts_ok(m.clock, m.writers, &m.deps, m.readers)
 }

@@ -9,11 +9,11 @@ use rules::Manager;
 use rules::Refusal;
 use rules::RoTxns;
 use rules::RwTxns;
+use rules::limits::DEPS_ALL;
 use rules::limits::READERS_MAX;
 use rules::limits::WRITERS_MAX;
 use txn::Managed;
-use txn::is_sound;
-use txn::refused;
+use txn::parts_sound;
 use txn_find::no_ro;
 use txn_find::no_rw;
 ghost use mathlib.Core.Bool.{_&&_};
@@ -39,6 +39,7 @@ pub fn created(s: u64) -> Manager
             lse: base,
         },
         writers: RwTxns { at: ts, count: 0 },
+        deps: [0; DEPS_ALL],
         readers: RoTxns {
             at: ps,
             count: 0,
@@ -47,23 +48,30 @@ pub fn created(s: u64) -> Manager
     }
 }
 
-// Refusals, in this order: 5, 6, 7.
+// The clock hands out EC and steps it by one; the transaction of that epoch is open. Its deps are the epochs of those
+// that are open before it, in order. Refusals, in this order: 5, 6, 7.
 pub fn begin(m: Manager, rest: bool) -> Managed
     ensures { λ r. ⌜ r ≡ managed (beginAnswer (rest && managerOk m) m) (begunManager m) m ⌝ }
 {
-    if !is_sound(m, rest) {
-        return refused(m, Refusal::Unsound);
+    let mut s = m;
+    let mut answer = Answer::Refused(Refusal::Unsound);
+    if parts_sound(rest, s.clock, s.writers, &s.deps, s.readers) {
+        if s.clock.ec == Epoch::LAST.number + 1 {
+            answer = Answer::Refused(Refusal::Exhausted);
+        } else if WRITERS_MAX <= s.writers.count {
+            answer = Answer::Refused(Refusal::TxnsFull);
+        } else {
+            let tick = epoch::advanced(s.clock);
+            let k = start::put_deps(s.writers, &mut s.deps);
+            let ts = start::recorded(s.writers, tick.epoch, k);
+            let clock = tick.clock;
+            s.clock = clock;
+            s.writers = ts;
+            answer = Answer::Begun { epoch: tick.epoch };
+        }
     }
-    let e = m.clock.ec;
-    if e == Epoch::LAST.number + 1 {
-        return refused(m, Refusal::Exhausted);
-    }
-    if WRITERS_MAX <= m.writers.count {
-        return refused(m, Refusal::TxnsFull);
-    }
-    let next = start::begun(m);
     Managed {
-        answer: Answer::Begun { epoch: e },
-        manager: next,
+        answer: answer,
+        manager: s,
     }
 }

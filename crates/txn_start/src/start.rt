@@ -1,45 +1,48 @@
-// The manager begun. 01 "The books", Begin.
-use rules::Deps;
-use rules::Manager;
+// A record more, and its row of the table of deps. 01 "The books", Begin.
 use rules::RwTxn;
+use rules::RwTxns;
+use rules::limits::DEPS_ALL;
 use rules::limits::DEPS_MAX;
-ghost use mathlib.Core.Bool.{true};
 ghost use mathlib.Core.Path.{_≡_};
-ghost use Prim.Native.Nat.{_<_, _≤_};
-ghost use Rattle.rules.specs.Limits.{lastEpoch, writersMax};
-ghost use Rattle.rules.specs.Begin.{begunManager};
-ghost use Rattle.rules.specs.WellFormed.{managerOk};
+ghost use Prim.Native.Nat.{_<_, _*_};
+ghost use lib.ListN.{length};
+ghost use Rattle.lists.specs.Lists.{over};
+ghost use Rattle.rules.specs.Limits.{writersMax, depsMax, depsAll};
+ghost use Rattle.txn_start.specs.Begin.{openedIn, recordedIn};
 
-// The clock hands out EC and steps it by one; the transaction of that epoch is open. Its deps are the epochs of those
-// that are open before it, in order.
-pub(crate) fn begun(m: Manager) -> Manager
-    requires { ⌜ managerOk m ≡ true ⌝ }
-    requires { ⌜ m .writers .count < writersMax ⌝ }
-    requires { ⌜ m .clock .ec ≤ lastEpoch ⌝ }
-    ensures { λ r. ⌜ r ≡ begunManager m ⌝ }
+// The epochs of the open records, in order, into the row after those in use; answers how many.
+pub(crate) fn put_deps(ts: RwTxns, deps: &mut [u64; DEPS_ALL]) -> usize
+    requires { ⌜ (ts .count < writersMax) × (length (now deps) ≡ depsAll) ⌝ }
+    ensures { λ r. ⌜ (r ≡ length (openedIn ts))
+        × (now (deps .exit) ≡ over (depsMax * ts .count) (openedIn ts) (now (deps .entry))) ⌝ }
 {
-    let tick = epoch::advanced(m.clock);
-    let mut ts = m.writers;
     let n = ts.count;
-    let mut at = [0u64; DEPS_MAX];
+    let from = DEPS_MAX * n;
     let mut k: usize = 0;
     let mut j: usize = 0;
     while j < n {
-        if ts.at[j].waiting == 0 {
-            at[k] = ts.at[j].epoch;
+        let t = ts.at[j];
+        if t.waiting == 0 {
+            deps[from + k] = t.epoch;
             k += 1;
         }
         j += 1;
     }
-    ts.at[n] = RwTxn {
-        epoch: tick.epoch,
+    k
+}
+
+// The record of epoch e, open, with k deps, after those in use.
+pub(crate) fn recorded(ts: RwTxns, e: u64, k: usize) -> RwTxns
+    requires { ⌜ ts .count < writersMax ⌝ }
+    ensures { λ r. ⌜ r ≡ recordedIn e k ts ⌝ }
+{
+    let mut r = ts;
+    let n = r.count;
+    r.at[n] = RwTxn {
+        epoch: e,
         waiting: 0,
-        deps: Deps { at: at, count: k },
+        deps: k,
     };
-    ts.count = n + 1;
-    let clock = tick.clock;
-    let mut next = m;
-    next.clock = clock;
-    next.writers = ts;
-    next
+    r.count = n + 1;
+    r
 }

@@ -1,14 +1,20 @@
 -- What a reader sees and applies, by its view. 01 "Who sees a row".
--- In order: depsIn, seesView, appliesView, pageView. Laws: proofs/Laws/View.antt.
+-- In order: depsWith, depsIn, seesView, appliesView, pageView. Laws: proofs/Laws/View.antt.
 -- Assumes nothing.
 use mathlib.Core.Bool.{Bool, cond}
-use mathlib.Core.List.{List}
+use mathlib.Core.List.{List, []}
 use Prim.Native.Nat.{ℕ}
-use lib.ListN.{take}
+use lib.ListN.{length, take}
 use lib.Dec.{eqb}
-use Rattle.rules.specs.Manager.{noDeps}
+use Rattle.lists.specs.Lists.{pad}
+use Rattle.rules.specs.Limits.{depsMax}
 use Rattle.rules.specs.Sees.{seesRw, appliesRw, upTo}
+use Rattle.visible.specs.declared.Deps.{Deps}
 use Rattle.visible.specs.declared.View.{View}
+
+-- a list in its places, unused places 0
+abbrev pub depsWith : List ℕ → Deps
+depsWith ds = record { at = pad depsMax 0 ds; count = length ds }
 
 -- the deps in use, at most depsMax
 abbrev pub depsIn : View → List ℕ
@@ -25,4 +31,4 @@ appliesView v = cond (isRw v) (appliesRw (v .epoch) (depsIn v)) (upTo (v .epoch)
 
 -- a read-only transaction at epoch e
 abbrev pub pageView : ℕ → View
-pageView e = record { epoch = e; rw = 0; deps = noDeps }
+pageView e = record { epoch = e; rw = 0; deps = depsWith [] }

@@ -4,7 +4,6 @@ use crate::pack::bytes_for;
 use crate::write::write;
 use area::Area;
 use places::in_use;
-use rules::Deps;
 use rules::limits::DEPS_MAX;
 use rules::limits::ENTRIES_MAX;
 use rules::limits::ROWS_MAX;
@@ -19,6 +18,13 @@ mod write;
 ghost use mathlib.Core.Path.{_≡_};
 ghost use Rattle.visible.specs.View.{pageView};
 ghost use Rattle.visible.specs.Scan.{scanned, bitmapScanned};
+
+// The epochs that were open when a read-write transaction began (01: deps), those in use first.
+#[repr(C)]
+pub struct Deps {
+    pub at: [u64; DEPS_MAX],
+    pub count: usize,
+}
 
 // A reader: rw is 1 for a read-write transaction (01: load) of this epoch with these deps; else it is a
 // read-only one (01: page) at this epoch, and the deps are not read.

@@ -1,7 +1,7 @@
 // Which epochs a reader sees, and which deletes (01: clearings) it applies. 01 "Who sees a row".
+use crate::Deps;
 use crate::View;
 use places::in_use;
-use rules::Deps;
 use rules::limits::DEPS_MAX;
 ghost use mathlib.Core.Path.{_≡_};
 ghost use lib.ListN.{take};

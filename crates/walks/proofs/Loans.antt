@@ -5,7 +5,7 @@
 --     Heads, Helds     what the caller holds, slice by slice and as one entry.   gathers, scatters   from one to the
 --                      other
 --     Lending          the signature.        Callee       a function of it that asks for nothing
---     loan-call        the call
+--     lend-call        the call.        loan-call     the call with a first parameter before the slices
 -- The operands of the call are read with two entries in place of the slices.
 -- Assumes `Given`.
 use mathlib.Core.Path.{_≡_, subst}
@@ -23,7 +23,7 @@ use ghost.Atoms.{Atoms, sem}
 use contract.Monad.{fact}
 use contract.Lifetimes.{Lfts, Shares, toks}
 use types.Kit.{Given, Item, ‵, raw, _⊛_, ⋆, pop, push, cut, Goal, Soaks, Sq, Step, Go, _$_, !, move, use0}
-use types.Kit.{use1, drop, split, join, fsplit, fjoin, feqL}
+use types.Kit.{use1, drop, split, join, fsplit, fjoin, feqL, _∵_, qed, done}
 use types.Run.{Opds}
 use denote.RattleType.{RattleType, owns, Denots, Valss, flat}
 use denote.Laws.{Is, Tells}
@@ -234,6 +234,33 @@ module _ (ls : List Loan) (ps : List (Slot (count ls))) (ks : Kepts ps) (Q : Rat
     Says 𝓤 c free φ = (g : Mades ls) (r : Q .Denot) (ws : Lasts Lending (lfts ls g) (a g)) → ent 𝓤 (c (lfts ls g) (a
         g) .ensures (free (lfts ls g) (a g) .0) r (atExit Lending (lfts ls g) (a g) ws)) (fact 𝓤 (φ r (zs g ws)))
 
+    -- the slices, and others behind them of which N is owned, are what the parameters own
+    module _ {M : Type 1} {𝓤 : URA M} {H : Heap 𝓤} {A : Atoms 𝓤} {W : Given 𝓤 H A} {Γ : List (Item 𝓤)} {C : Calls 𝓤 H}
+        {E : Env 𝓤 H} {f : Name} {xs : List Operand} {after : Val → Goal 𝓤 H} {G : Goal 𝓤 H} (by : Calling W C E f xs
+        after G) (N : Mades ls → Fml) (own-N : (g : Mades ls) → ent 𝓤 (emp 𝓤) (sem 𝓤 H A (N g))) (into : (g : Mades ls)
+        → ent 𝓤 (sem 𝓤 H A (Passeds ls g (N g))) (sem 𝓤 H A (owns (typesAt ps (lfts ls g)) (a g) (vss g)))) (from : (g :
+        Mades ls) (ws : Lasts Lending (lfts ls g) (a g)) → (P : Fml) × ent 𝓤 (sem 𝓤 H A (lasts Lending (lfts ls g) (a g)
+        ws)) (sem 𝓤 H A (Lefts ls g (zs g ws) P))) (val : Q .Denot → Val) (tl : Tells Q (Is Q) (λ z. val z ∷ [])) where
+      pub lend-call : (c : Callee 𝓤 H A C f Lending) → (φ : Q .Denot → Endss ls → Type 0)
+          → Says 𝓤 (c .clauses) (c .free) φ
+          → ((g : Mades ls) (i j : Item 𝓤) → Opds (Go {0}) W (i ∷ j ∷ Γ) E xs (flat (typesAt ps (lfts ls g)) (vss g)))
+          → ((r : Q .Denot) (es : Endss ls) → Sames ls es → φ r es → Is Q r (val r ∷ [])
+            → Sq W (‵ (Helds ls es) ∷ Γ) (after (val r)))
+          → Sq W (‵ (Helds ls (nows ls)) ∷ Γ) G
+      lend-call callee φ told os k = outs W G (by .soaks) ls (λ g. let c = callee .clauses in let free = callee .free
+          (lfts ls g) (a g) in
+          let y : Met 𝓤 H A Lending c .Ghost = ((lfts ls g, parts ls, tt, a g, vss g), free .0) in
+          use0 W (raw (c (lfts ls g) (a g) .requires (free .0))) (free .1) $ move ! (2 ∷ []) $
+          use1 W (‵ (Passeds ls g (N g))) (plugged 𝓤 H A ls g (N g) (own-N g)) $
+          use1 W (‵ (owns (typesAt ps (lfts ls g)) (a g) (vss g))) (into g) $
+          -- [what the parameters own; the requires; the tokens; what is kept]
+          move ! (2 ∷ 0 ∷ []) $ join ! $ join ! $ use1 W (raw (Met 𝓤 H A Lending c .pre y)) (id⊢ 𝓤 _) $
+          answered W Lending c y by (callee .met) val tl (os g _ _) (λ r ws is.
+          use1 W (raw (fact 𝓤 (φ r (zs g ws)))) (told g r ws) $ heard ! (φ r (zs g ws)) (λ p.
+          use1 W (‵ (Lefts ls g (zs g ws) (from g ws .0))) (from g ws .1) $
+          move ! (1 ∷ 2 ∷ []) $ homes W (after (val r)) (by .soaks-after _) ls g (zs g ws) (from g ws .0) (λ same.
+          k r (zs g ws) same p is))))
+
     -- the slices stand behind a first parameter of which F is owned, and before others of which N is
     module _ {M : Type 1} {𝓤 : URA M} {H : Heap 𝓤} {A : Atoms 𝓤} {W : Given 𝓤 H A} {Γ : List (Item 𝓤)} {C : Calls 𝓤 H}
         {E : Env 𝓤 H} {f : Name} {xs : List Operand} {after : Val → Goal 𝓤 H} {G : Goal 𝓤 H} (by : Calling W C E f xs
@@ -248,18 +275,11 @@ module _ (ls : List Loan) (ps : List (Slot (count ls))) (ks : Kepts ps) (Q : Rat
           → ((r : Q .Denot) (es : Endss ls) → Sames ls es → φ r es → Is Q r (val r ∷ [])
             → Sq W (‵ (Helds ls es) ∷ Γ) (after (val r)))
           → Sq W (‵ (Helds ls (nows ls)) ∷ Γ) G
-      loan-call callee φ told os k = outs W G (by .soaks) ls (λ g. let c = callee .clauses in let free = callee .free
-          (lfts ls g) (a g) in
-          let y : Met 𝓤 H A Lending c .Ghost = ((lfts ls g, parts ls, tt, a g, vss g), free .0) in
-          use0 W (raw (c (lfts ls g) (a g) .requires (free .0))) (free .1) $ use0 W (‵ F) own-F $ move ! (3 ∷ []) $
-          use1 W (‵ (Passeds ls g (N g))) (plugged 𝓤 H A ls g (N g) (own-N g)) $ move ! (1 ∷ 0 ∷ []) $ fjoin ! $
-          use1 W (‵ (owns (typesAt ps (lfts ls g)) (a g) (vss g))) (subst (λ (X : Fml). ent 𝓤 (sem 𝓤 H A (fsep F
-              (Passeds ls g (N g)))) (sem 𝓤 H A X)) (into g) (id⊢ 𝓤 _)) $
-          -- [what the parameters own; the requires; the tokens; what is kept]
-          move ! (2 ∷ 0 ∷ []) $ join ! $ join ! $ use1 W (raw (Met 𝓤 H A Lending c .pre y)) (id⊢ 𝓤 _) $
-          answered W Lending c y by (callee .met) val tl (os g _ _) (λ r ws is.
-          use1 W (raw (fact 𝓤 (φ r (zs g ws)))) (told g r ws) $ heard ! (φ r (zs g ws)) (λ p.
-          use1 W (‵ (fsep ftrue (Lefts ls g (zs g ws) (from g ws .0)))) (subst (λ (X : Fml). ent 𝓤 (sem 𝓤 H A (lasts
-              Lending (lfts ls g) (a g) ws)) (sem 𝓤 H A X)) (from g ws .1) (id⊢ 𝓤 _)) $ fsplit ! $ drop ! $
-          move ! (1 ∷ 2 ∷ []) $ homes W (after (val r)) (by .soaks-after _) ls g (zs g ws) (from g ws .0) (λ same.
-          k r (zs g ws) same p is))))
+      loan-call = lend-call by N own-N
+          (λ g. qed W (‵ (Passeds ls g (N g)) ∷ []) ∵ use0 W (‵ F) own-F $ fjoin ! $
+            use1 W (‵ (owns (typesAt ps (lfts ls g)) (a g) (vss g))) (subst (λ (X : Fml). ent 𝓤 (sem 𝓤 H A (fsep F
+              (Passeds ls g (N g)))) (sem 𝓤 H A X)) (into g) (id⊢ 𝓤 _)) $ done !)
+          (λ g ws. (from g ws .0, qed W (‵ (lasts Lending (lfts ls g) (a g) ws) ∷ []) ∵
+            use1 W (‵ (fsep ftrue (Lefts ls g (zs g ws) (from g ws .0)))) (subst (λ (X : Fml). ent 𝓤 (sem 𝓤 H A (lasts
+              Lending (lfts ls g) (a g) ws)) (sem 𝓤 H A X)) (from g ws .1) (id⊢ 𝓤 _)) $ fsplit ! $ drop ! $ done !))
+          val tl

@@ -4,7 +4,7 @@
 --     values, keeps, tys     parameters of the types ps, and their locals.        Nums     their values
 --     Of, applied      a function of them, and its value at them.        moved     them, for other lifetimes
 --     spelt, vals      their machine values.        Fits     they are in range
---     own-values, has-values     what a call asks of its caller for them.        has-one     for one
+--     own-values, has-values     what a call asks of its caller for them
 --     args-after       they are read as operands, where they stand behind other arguments
 -- Assumes nothing but where a `Given` is asked.
 use mathlib.Core.Path.{_≡_, refl, ap}
@@ -170,8 +170,3 @@ module _ {M : Type 1} (𝓤 : URA M) (H : Heap 𝓤) (A : Atoms 𝓤) (W : Given
         → Opds (Go {0}) W Γ (e ∷ (envOf (asLocals τs) bs ++ F)) (copies (length us) n) (vals 0 tt n (moved k κs 0 tt
             n t))
     args-after us n t h at-i = reads-from (us ++ vals k κs n t) h at-i n (length us) t (holds-from us (vals k κs n t))
-
-pub has-one : (P : Shown) {M : Type 1} (𝓤 : URA M) (H : Heap 𝓤) (A : Atoms 𝓤) (W : Given 𝓤 H A) (p : P .row .Denot)
-    → Is (P .row) p (P .val p ∷ [])
-    → ent 𝓤 (emp 𝓤) (sep 𝓤 (sem 𝓤 H A (owns (P .row ∷ []) (p, tt) (P .val p ∷ [], tt))) (emp 𝓤))
-has-one P 𝓤 H A W p g = has-values 𝓤 H A W 0 tt (P ∷ []) (p, tt) (g, tt)

@@ -7,7 +7,7 @@ use mathlib.Core.List.{List, _++_}
 use Prim.Native.Nat.{ℕ, _+_, _*_, _≤_, _<_, min}
 use native.Mathlib.Numerals.{add-one}
 use native.Mathlib.Omega.{arith}
-use lib.ListN.{length, take, drop, getD, set, replicate, length-drop, length-map}
+use lib.ListN.{length, take, drop, getD, set, length-drop, length-map}
 use lib.Seq.{getD-drop}
 use lib.Dec.{ltb}
 use borrow.Author.Tests.{ltb-true}
@@ -22,15 +22,10 @@ use Rattle.rules.specs.declared.Entry.{Entry}
 use Rattle.rules.specs.declared.Partition.{Partition}
 use Rattle.rules.proofs.Entry as entry-type
 use Rattle.lent.specs.Entries.{none}
-use Rattle.lent.specs.declared.Table.{Table}
-use Rattle.lent.proofs.Table as table-type
 use Rattle.area.specs.Area.{baseOf, entriesIn, areaAt}
+use Rattle.area.specs.Load.{noEntries}
 use Rattle.area.specs.declared.Area.{Area}
 use Rattle.area.proofs.Area as area-type
-
-pub table-length : (x : Table) (vs : List Val) → Is (row table-type.the-type) x vs
-    → length (x .at) ≡ entriesMax * areasMax
-table-length x vs g = sym (length-map (x .at) (entry-type.the-type .to)) ∙ g .1 .1 .0 .1 .0 .1
 
 pub area-length : (x : Area) (vs : List Val) → Is (row area-type.the-type) x vs → length (x .at) ≡ entriesMax
 area-length x vs g = sym (length-map (x .at) (entry-type.the-type .to)) ∙ g .1 .1 .0 .1 .0 .1
@@ -47,25 +42,21 @@ base-fits area = split (ltb area areasMax)
 
 -- ---- a loop that reads an area
 
--- an area of no entries
-unfoldable pub blank : List Entry
-blank = replicate entriesMax none
-
-blank-length : length blank ≡ entriesMax
-unfolding blank
+blank-length : length noEntries ≡ entriesMax
+unfolding noEntries
 blank-length = refl
 
 -- the first k entries of the area at index base, the other places blank
 abbrev pub readTo : List Entry → ℕ → ℕ → List Entry
-readTo es base k = take k (drop base es) ++ drop k blank
+readTo es base k = take k (drop base es) ++ drop k noEntries
 
 pub read-next : (es : List Entry) (base k : ℕ) → base + entriesMax ≤ length es → k < entriesMax
     → set (readTo es base k) k (getD es (base + k) none) ≡ readTo es base (k + 1)
 read-next es base k h l = let d = length-drop base es in let n = blank-length in
-    rw (add-one k, ← getD-drop base es k none) (put-next (drop base es) blank k none (omega arith) (omega arith))
+    rw (add-one k, ← getD-drop base es k none) (put-next (drop base es) noEntries k none (omega arith) (omega arith))
 
 pub area-read : (es : List Entry) (q : Partition) (base k : ℕ) → base ≡ baseOf entriesMax (q .area) → k ≡ entriesMax
     → record { at = readTo es base k; count = q .entries } ≡ areaAt es q
 unfolding areaAt
 area-read es q base k b e =
-    rw (b, e, copied-all (drop (baseOf entriesMax (q .area)) es) blank entriesMax blank-length)
+    rw (b, e, copied-all (drop (baseOf entriesMax (q .area)) es) noEntries entriesMax blank-length)

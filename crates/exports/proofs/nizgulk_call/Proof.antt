@@ -37,6 +37,7 @@ use denote.Triple.Table.{entered, cited}
 use denote.Triple.Walked.{says, Stays, stay-dropped, stay-none-slice, stay-slice, walkOf, goes-dropped, goes-none-slice}
 use denote.Triple.Walked.{goes-slice, Walks, ends-at, walked, walk-meets}
 use denote.Exit.{yes}
+use Rattle.rules.specs.Limits.{partitionsMax}
 use Rattle.rules.specs.Step.{step, callOf}
 use Rattle.rules.specs.declared.Command.{Command}
 use Rattle.rules.specs.declared.Entry.{Entry}
@@ -45,6 +46,7 @@ use Rattle.store.specs.Kept.{storeOf}
 use Rattle.store.specs.declared.Kept.{Kept}
 use Rattle.dispatch.specs.Dispatch.{Did}
 use Rattle.exports.specs.Numbered.{commandOf, repliedOf}
+use Rattle.exports.proofs.Laws.Numbered.{answers}
 use Rattle.rules.proofs.Entry as T
 use Rattle.rules.proofs.State as K
 use Rattle.rules.proofs.State.Laws as K′
@@ -57,6 +59,7 @@ use Rattle.walks.proofs.Groups.{relends, comes-in, goes-out}
 use Rattle.walks.proofs.Shown.{Shown, number}
 use Rattle.shapes.proofs.Core.{state, books}
 use Rattle.store.proofs.Types.{kept}
+use Rattle.store.proofs.Laws.Write.{state-8}
 use Rattle.dispatch.proofs.Turning.{ordered, Turns, turn-call}
 use Rattle.dispatch.proofs.dispatch as dispatch
 use Rattle.dispatch.proofs.dispatch.Symbol as dispatch-def
@@ -88,6 +91,9 @@ replied = record {
 abbrev three : List Shown
 three = number ∷ number ∷ number ∷ []
 
+-- what reply_to takes
+abbrev ended : List Shown
+ended = number ∷ ordered ∷ kept ∷ []
 
 abbrev locals : List Local
 locals = code.function .locals
@@ -105,7 +111,7 @@ pub record Known {M : Type 1} (𝓤 : URA M) (H : Heap 𝓤) (A : Atoms 𝓤) (a
   pub of-command : Triple 𝓤 (C command-of-def.name)
       (Yields 𝓤 ordered three commandOf H A)
   pub of-call : Triple 𝓤 (C dispatch-def.name) (tripleOf 𝓤 H A dispatch.signature (dispatch.spec 𝓤 H A at-mem run))
-  pub of-reply : Triple 𝓤 (C reply-to-def.name) (Yields 𝓤 replied (kept ∷ []) repliedOf H A)
+  pub of-reply : Triple 𝓤 (C reply-to-def.name) (Yields 𝓤 replied ended repliedOf H A)
 
 module _ {M : Type 1} (𝓤 : URA M) (H : Heap 𝓤) (A : Atoms 𝓤) (W : Given 𝓤 H A) (at-mem : Memory → SProp 𝓤)
     (run : Routine → Fun 𝓤) (bk : State) (x₁ : Lent T.the-row) (x₂ x₃ : Lent u64) (x₄ : Lent u8) (n a b : ℕ) where
@@ -143,18 +149,19 @@ module _ {M : Type 1} (𝓤 : URA M) (H : Heap 𝓤) (A : Atoms 𝓤) (W : Given
       ∷ ‵ (fsep (token x₃) (shr x₃)) ∷ ‵ (fsep (token x₄) (mutAt (named 3) x₄ l)) ∷ []
 
   exits : (r : Kept) (es : List Entry) (rs l : List ℕ) → length es ≡ length (x₁ .list) → length rs ≡ length (x₂ .list)
-      → length l ≡ length (x₄ .list) → Done r es rs l → Is Rp.the-row (repliedOf r) (replied .val (repliedOf r) ∷ [])
-      → ent 𝓤 (⋆ 𝓤 H A (Ended es rs l)) (Post (replied .val (repliedOf r)))
-  exits r es rs l le lr ll did ga =
+      → length l ≡ length (x₄ .list) → Done r es rs l → length (bk .partitions .at) ≡ partitionsMax
+      → (let z = repliedOf n cm r in Is Rp.the-row z (replied .val z ∷ []))
+      → ent 𝓤 (⋆ 𝓤 H A (Ended es rs l)) (Post (replied .val (repliedOf n cm r)))
+  exits r es rs l le lr ll did eight ga =
       qed W (Ended es rs l) ∵
       suffices ! _ (ends-at 𝓤 H A f.ended stayed (f.clauses 𝓤 H A at-mem run) W ((κs, qs, tt, x, at), tt)
-          (replied .val (repliedOf r)) (repliedOf r) (tt, (es, (rs, (tt, (l, (tt, (tt, (tt, tt))))))))
+          (replied .val (repliedOf n cm r)) (repliedOf n cm r) (tt, (es, (rs, (tt, (l, (tt, (tt, (tt, tt))))))))
           (tt, (le, (lr, (tt, (ll, (tt, (tt, (tt, tt))))))))) $
-      says ! (rw (did .0 .0), rw (did .0 .0), rw (did .0 .0), did .0 .1, did .1) $ nothing ! $
+      says ! (answers (x₃ .list) (x₄ .list) (storeOf bk (x₂ .list) (x₁ .list)) eight r rs es n a b l did) $ nothing ! $
       nothing ! $ fjoin ! $ nothing ! $ fjoin ! $ nothing ! $ fjoin ! $ nothing ! $ move ! (5 ∷ []) $ goes-out ! $
       move ! (4 ∷ []) $ goes-out ! $ move ! (3 ∷ []) $ goes-out ! $ move ! (2 ∷ []) $ goes-out ! $
       move ! (1 ∷ []) $ nothing ! $ fjoin ! $ move ! (1 ∷ []) $ frame ! $ frame ! $
-      owned ! Rp.the-row (Is Rp.the-row) (replied .makes 𝓤 H A W) (repliedOf r) _ ga $ done !
+      owned ! Rp.the-row (Is Rp.the-row) (replied .makes 𝓤 H A W) (repliedOf n cm r) _ ga $ done !
 
   module _ (C : Calls 𝓤 H) (Λ : Loops 𝓤 H) (fm : FmC 𝓤 H (W .laws) C) (known : Known 𝓤 H A at-mem run C)
       (gb : Is K.the-row bk (books bk ∷ [])) (r₁ : Room T.the-row (length (x₁ .list)))
@@ -197,13 +204,15 @@ module _ {M : Type 1} (𝓤 : URA M) (H : Heap 𝓤) (A : Atoms 𝓤) (W : Given
               Done (λ _ _ _ _. id⊢ 𝓤 _) (λ r zs same did gr. scatters ! lent zs $
           -- [the slices; the locals]
           land ! (spot ! refl (stop !)) (sets ! 5 1 refl tt (kept .wt 𝓤 H A W r gr)) $
-          yield-call fm replied (kept ∷ []) repliedOf (known .of-reply) (r, tt) (gr, tt) (λ _. and-then ! (get ! 6 1
-              refl refl refl) (no-more !)) (λ ga.
+          yield-call fm replied ended repliedOf (known .of-reply) (n, (cm, (r, tt))) ((refl, fn), (gc, (gr, tt)))
+              (λ _. and-then ! (get ! 5 6 refl refl refl) (and-then ! (get ! 6 0 refl refl refl)
+                (and-then ! (get ! 6 1 refl refl refl) (no-more !)))) (λ ga.
           land ! (spot ! refl (stop !))
-              (sets ! 4 0 refl tt (replied .wt 𝓤 H A W (repliedOf r) ga)) $
+              (sets ! 4 0 refl tt (replied .wt 𝓤 H A W (repliedOf n cm r) ga)) $
           returns ! (look-in ! 4 (within ! 0 refl)) $ move ! (4 ∷ 5 ∷ []) $ frees-frame ! Fs _ $ frees-frame ! Gs [] $
           free0 ! $
-          by ! (exits r (zs .0) (zs .1 .0) (zs .1 .1 .1 .0) (same .0) (same .1 .0) (same .1 .1 .1 .0) did ga))))
+          by ! (exits r (zs .0) (zs .1 .0) (zs .1 .1 .1 .0) (same .0) (same .1 .0) (same .1 .1 .1 .0) did
+            (state-8 bk _ gb) ga))))
 
     walk : ent 𝓤 (onEntry 𝓤 H A f.signature κs qs x at) (WpFn 𝓤 H C Λ code.function given Post)
     walk =
@@ -265,7 +274,7 @@ nizgulk-call-spec 𝓤 H 𝓜 𝓖 𝓡 =
       of-call = cited 𝓤 H (tripleOf 𝓤 H (𝓖 .A) dispatch.signature (dispatch.spec 𝓤 H (𝓖 .A) (𝓜 .mem) (𝓡 .run)))
         𝓜 𝓡 code.env dispatch-def.name dispatch-def.routine code.calls-dispatch·dispatch
         (dispatch-thm.met 𝓤 H 𝓜 𝓖 𝓡);
-      of-reply = cited 𝓤 H (Yields 𝓤 replied (kept ∷ []) repliedOf H (𝓖 .A))
+      of-reply = cited 𝓤 H (Yields 𝓤 replied ended repliedOf H (𝓖 .A))
         𝓜 𝓡 code.env reply-to-def.name reply-to-def.routine code.calls-exports·numbered·reply-to
         (reply-to-thm.met 𝓤 H 𝓜 𝓖 𝓡);
     }))

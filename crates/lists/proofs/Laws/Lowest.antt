@@ -10,7 +10,7 @@ use Rattle.lists.specs.Lists.{gather}
 use Rattle.lists.proofs.Laws.Places.{Scan, scan-next}
 
 -- an element taken from the front goes into the bound
-lowest-front : (b x : ℕ) (xs : List ℕ) → foldr min b (x ∷ xs) ≡ foldr min (min b x) xs
+pub lowest-front : (b x : ℕ) (xs : List ℕ) → foldr min b (x ∷ xs) ≡ foldr min (min b x) xs
 lowest-front b x [] = omega arith
 lowest-front b x (y ∷ xs) = let ih = lowest-front b x xs in omega arith
 

@@ -1,7 +1,7 @@
 -- Writing over a part of a list, piece by piece. Definition: lists' over.
 -- In order: nothing, one element, an element after others, one part after another, behind what lies there; one more
 -- behind what is written, and a copy element by element; a part read from elsewhere, a part of a part; the part from an
--- index on.
+-- index on; a row after those of a padded list.
 -- Elsewhere: what lies in a part, written over it, and lengths (Laws/Parts.antt).
 -- Assumes nothing.
 use mathlib.Core.Path.{_≡_, sym, _∙_, ap}
@@ -10,12 +10,14 @@ use mathlib.Core.List.{List, [], _∷_, _++_, append-assoc, append-nil}
 use Prim.Native.Nat.{ℕ, suc, _+_, _-_, _≤_, _<_}
 use native.Mathlib.Omega.{arith}
 use native.Mathlib.Numerals.{add-one}
-use lib.ListN.{length, take, drop, getD, set, length-append, length-drop, drop-of-length-le, take-append-drop}
+use lib.ListN.{length, take, drop, getD, set, replicate, length-append, length-drop, length-replicate}
+use lib.ListN.{drop-of-length-le, take-append-drop, replicate-append-replicate}
 use lib.Seq.{length-take-le, drop-at, set-at, take-add, take-suc, take-take, drop-cons, drop-drop, set-split}
-use lib.Seq.{take-all, take-set-le, getD-take, getD-drop}
-use Rattle.lists.specs.Lists.{part, over}
+use lib.Seq.{take-all, take-set-le, take-append-seam, take-append-le, drop-append-le, drop-append-add}
+use lib.Seq.{getD-take, getD-drop}
+use Rattle.lists.specs.Lists.{pad, part, over}
 use Rattle.lists.proofs.Laws.Parts.{length-part, drop-take, length-over, take-over, drop-over, part-over-before}
-use Rattle.lists.proofs.Laws.Parts.{part-over-after}
+use Rattle.lists.proofs.Laws.Parts.{part-over-after, drop-replicate}
 
 module _ {A : Type 0} where
   pub over-nil : (i : ℕ) (l : List A) → over i [] l ≡ l
@@ -110,3 +112,23 @@ module _ {A : Type 0} where
       let z : 0 + length xs ≡ length xs = omega arith in
       rw (take-all (length l - w) t (omega arith), drop-of-length-le t {i = length l - w} (omega arith),
           append-nil (over 0 xs t), z, drop-drop (length xs) w l)
+
+  -- ---- over the first of two lists; a row of k elements after those of a padded list, itself padded
+
+  pub over-left : (i : ℕ) (vs xs ys : List A) → i + length vs ≤ length xs → over i vs (xs ++ ys) ≡ over i vs xs ++ ys
+  over-left i vs xs ys h =
+      rw (take-append-le i xs ys (omega arith), drop-append-le (i + length vs) xs ys h,
+        append-assoc (take i xs) (vs ++ drop (i + length vs) xs) ys, append-assoc vs (drop (i + length vs) xs) ys)
+
+  pub over-pad : (n k : ℕ) (z : A) (xs vs : List A) → length vs ≤ k → length xs + k ≤ n
+      → over (length xs) vs (pad n z xs) ≡ pad n z (xs ++ pad k z vs)
+  over-pad n k z xs vs h l =
+      let a = replicate (k - length vs) z in let w : length (pad k z vs) ≡ k =
+            (simp (length-append, length-replicate) (omega arith)) in
+      let e : length (xs ++ pad k z vs) ≡ length xs + k = length-append xs (pad k z vs) ∙ rw w in
+      let m : n - length xs - length vs ≡ k - length vs + (n - (length xs + k)) = omega arith in
+      rw (e, take-append-seam xs (replicate (n - length xs) z),
+        drop-append-add xs (replicate (n - length xs) z) (length vs), drop-replicate (length vs) (n - length xs) z, m,
+        ← replicate-append-replicate (k - length vs) (n - (length xs + k)) z)
+        (sym (append-assoc xs (vs ++ a) (replicate (n - (length xs + k)) z)
+          ∙ ap (λ ys. xs ++ ys) (append-assoc vs a (replicate (n - (length xs + k)) z))))

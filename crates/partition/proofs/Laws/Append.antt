@@ -20,7 +20,7 @@ use Rattle.rules.specs.Span.{Span, entriesOf, wordsOf}
 use Rattle.rules.specs.Append.{isRowsOf, extended}
 use Rattle.rules.specs.declared.Entry.{Entry}
 use Rattle.rules.specs.declared.Partition.{Partition}
-use Rattle.partition.specs.Append.{grows, keptIn}
+use Rattle.partition.specs.Append.{grows, lastOf, keptIn}
 use Rattle.lent.specs.Entries.{none}
 
 -- ---- entries of appended spans
@@ -72,7 +72,7 @@ kept-at i n b entries (e ∷ es) l f =
     rw (lt-ltb 0 n (omega arith), k, ← g, kept-last i e es none, ← l)
 
 pub keptIn-is : (entries : List Entry) (q : Partition) (i : ℕ) → entriesMax * q .area + q .entries ≤ length entries
-    → keptIn entries q i ≡ keptOf i (part (entriesMax * q .area) (q .entries) entries)
+    → keptIn (lastOf entries q) q i ≡ keptOf i (part (entriesMax * q .area) (q .entries) entries)
 unfolding keptIn
 keptIn-is entries q i h = let b = entriesMax * q .area in
     kept-at i (q .entries) b entries (part b (q .entries) entries) (length-part b (q .entries) entries h)

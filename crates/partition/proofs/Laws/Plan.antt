@@ -3,10 +3,8 @@
 -- Assumes nothing.
 use mathlib.Core.Path.{_≡_}
 use mathlib.Core.Bool.{true, false}
-use mathlib.Core.List.{List}
 use Prim.Native.Nat.{ℕ, _+_, _-_, _*_, _≤_, _<_}
 use native.Mathlib.Omega.{arith}
-use lib.ListN.{getD}
 use lib.Dec.{ltb, leb}
 use borrow.Author.Tests.{ltb-true, leb-true, lt-ltb, le-ltb, le-leb, lt-leb, eq-eqb, ne-eqb}
 use Rattle.lists.proofs.Laws.Tests.{and-three}
@@ -14,7 +12,6 @@ use Rattle.rules.specs.Limits.{areasMax, rowsMax, entriesMax}
 use Rattle.rules.specs.declared.Entry.{Entry}
 use Rattle.rules.specs.declared.Partition.{Partition}
 use Rattle.partition.specs.Append.{inRange, fullIf, stays, grows, keptIn, appendAt, appendPlan}
-use Rattle.lent.specs.Entries.{none}
 use Rattle.partition.specs.Append.{placed, clearPlan}
 
 -- ---- words in range
@@ -51,33 +48,33 @@ module _ (n : ℕ) (q : Partition) (i k : ℕ) where
   unfolding appendAt
   appendAt-fits h e = rw (le-ltb (rowsMax - q .rows) k h, lt-leb entriesMax n e)
 
-module _ (entries : List Entry) (q : Partition) (i k : ℕ) where
-  pub appendPlan-out : inRange q ≡ false → appendPlan entries q i k ≡ stays (fullIf true true) q
+module _ (last : Entry) (q : Partition) (i k : ℕ) where
+  pub appendPlan-out : inRange q ≡ false → appendPlan last q i k ≡ stays (fullIf true true) q
   unfolding appendPlan
   appendPlan-out f = rw f
 
   module _ (t : inRange q ≡ true) where
-    pub appendPlan-none : k ≡ 0 → appendPlan entries q i k ≡ stays (fullIf false false) q
+    pub appendPlan-none : k ≡ 0 → appendPlan last q i k ≡ stays (fullIf false false) q
     unfolding appendPlan
     appendPlan-none h = rw (t, eq-eqb k 0 h)
 
     module _ (some : k ≡ 0 → ⊥) where
-      pub appendPlan-kept : appendPlan entries q i k ≡ appendAt (keptIn entries q i) q i k
+      pub appendPlan-kept : appendPlan last q i k ≡ appendAt (keptIn last q i) q i k
       unfolding appendPlan
       appendPlan-kept = rw (t, ne-eqb k 0 some)
 
-      pub appendPlan-first : q .entries ≡ 0 → appendPlan entries q i k ≡ appendAt 0 q i k
+      pub appendPlan-first : q .entries ≡ 0 → appendPlan last q i k ≡ appendAt 0 q i k
       unfolding appendPlan keptIn
       appendPlan-first h = rw (t, ne-eqb k 0 some, le-ltb 0 (q .entries) (omega arith), h)
 
       module _ (used : q .entries ≡ 0 → ⊥) where
-        pub appendPlan-grows : grows i (getD entries (entriesMax * q .area + (q .entries - 1)) none) ≡ true
-            → appendPlan entries q i k ≡ appendAt (q .entries - 1) q i k
+        pub appendPlan-grows : grows i last ≡ true
+            → appendPlan last q i k ≡ appendAt (q .entries - 1) q i k
         unfolding appendPlan keptIn
         appendPlan-grows g = rw (t, ne-eqb k 0 some, lt-ltb 0 (q .entries) (omega arith), g)
 
-        pub appendPlan-adds : grows i (getD entries (entriesMax * q .area + (q .entries - 1)) none) ≡ false
-            → appendPlan entries q i k ≡ appendAt (q .entries) q i k
+        pub appendPlan-adds : grows i last ≡ false
+            → appendPlan last q i k ≡ appendAt (q .entries) q i k
         unfolding appendPlan keptIn
         appendPlan-adds g = rw (t, ne-eqb k 0 some, lt-ltb 0 (q .entries) (omega arith), g)
 

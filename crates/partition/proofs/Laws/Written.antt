@@ -1,29 +1,35 @@
 -- A plan carried out leaves what rules' append and clear leave (laidInPlace). Definitions: specs/Append.antt.
--- In order: what is written, a partition of a sound store, append, clear.
+-- In order: what is written, a partition of a sound store, append, the end that moves, clear.
 -- Assumes nothing.
 use mathlib.Core.Path.{_≡_, refl, sym, ap, _∙_}
-use mathlib.Core.Bool.{true, false, _||_}
+use mathlib.Core.Bool.{true, false, not, _||_}
 use mathlib.Core.List.{List, [], _∷_, _++_}
-use Prim.Native.Nat.{ℕ, suc, _+_, _-_, _*_, _≤_, _<_}
+use Prim.Native.Nat.{ℕ, zero, suc, _+_, _-_, _*_, _≤_, _<_}
 use native.Mathlib.Omega.{arith}
-use lib.ListN.{length, take, set, length-append}
-use lib.Seq.{length-take-le, set-out}
-use lib.Dec.{ltb, leb}
-use borrow.Author.Tests.{ltb-true, ltb-false, leb-true, leb-false, lt-ltb, le-ltb, le-leb}
-use Rattle.lists.specs.Lists.{over}
-use Rattle.lists.proofs.Laws.Bools.{split, same-test, or-false-left, or-false-right}
+use lib.ListN.{length, take, drop, getD, set, length-append}
+use lib.Seq.{length-take-le, set-out, getD-take, getD-drop}
+use lib.Dec.{ltb, leb, eqb}
+use borrow.Author.Tests.{ltb-true, ltb-false, leb-true, leb-false, eqb-true, lt-ltb, le-ltb, le-leb, eq-eqb}
+use Rattle.lists.specs.Lists.{part, over}
+use Rattle.lists.proofs.Laws.All.{All-allOf, All-getD}
+use Rattle.lists.proofs.Laws.Bools.{split, split-eq, same-test, and-left, and-right, or-false-left}
+use Rattle.lists.proofs.Laws.Bools.{or-false-right}
 use Rattle.lists.proofs.Laws.Over.{over-one, over-behind}
-use Rattle.lists.proofs.Laws.Parts.{over-part, take-part}
+use Rattle.lists.proofs.Laws.Parts.{length-part, over-part, take-part}
 use Rattle.rules.specs.Limits.{partitionsMax, areasMax, rowsMax, entriesMax}
 use Rattle.rules.specs.Span.{Span, entriesOf, wordsOf}
 use Rattle.rules.specs.Append.{deleteSpan, extended, appended, cleared}
 use Rattle.rules.specs.Store.{Store, managerOf, partitionAt, spansAt, laid, laidInPlace}
+use Rattle.rules.specs.declared.Entry.{Entry}
 use Rattle.rules.specs.declared.Partition.{Partition}
 use Rattle.rules.proofs.Laws.Span.{length-entriesOf}
 use Rattle.rules.proofs.Laws.Append.{words-appended, words-cleared, length-cleared}
+use Rattle.rules.specs.WellFormed.{entryOk}
+use Rattle.rules.proofs.Laws.SpansTest.{entries-ok}
 use Rattle.rules.proofs.Laws.WellFormed.{StoreOk}
+use Rattle.lent.specs.Entries.{none, movedEnd}
 use Rattle.partition.specs.Rows.{putRows}
-use Rattle.partition.specs.Append.{inRange, fullIf, stays, keptIn, appendAt, appendPlan, clearPlan}
+use Rattle.partition.specs.Append.{inRange, fullIf, stays, grows, lastOf, keptIn, appendAt, appendPlan, clearPlan}
 use Rattle.partition.specs.Append.{placed, writtenBy}
 use Rattle.partition.specs.declared.Plan.{Plan}
 use Rattle.partition.proofs.Laws.Rows.{putRows-fits, putRows-none}
@@ -95,6 +101,9 @@ one-too-many n m e = same-test (leb entriesMax n) (ltb entriesMax m)
     (λ t. let g = ltb-true entriesMax m t in le-leb entriesMax n (omega arith))
 
 module _ (st : Store) (ok : StoreOk st) (p : ℕ) (h : p < partitionsMax) (i : ℕ) where
+  abbrev last : Entry
+  last = lastOf (st .entries) (partitionAt p st)
+
   -- how many of the partition's entries stay
   abbrev kept : ℕ
   kept = keptOf i (entriesOf 0 (spansAt p st))
@@ -103,7 +112,7 @@ module _ (st : Store) (ok : StoreOk st) (p : ℕ) (h : p < partitionsMax) (i : �
   abbrev grownBy : ℕ → Plan
   grownBy k = let q = partitionAt p st in placed kept q (rowsMax * q .area + q .rows) (rowsTo i (q .rows + k))
 
-  kept-is : keptIn (st .entries) (partitionAt p st) i ≡ kept
+  kept-is : keptIn last (partitionAt p st) i ≡ kept
   kept-is = keptIn-is (st .entries) (partitionAt p st) i (entries-inside st ok p h)
       ∙ ap (keptOf i) (sym (ok .partition p h .entries-are))
 
@@ -118,15 +127,15 @@ module _ (st : Store) (ok : StoreOk st) (p : ℕ) (h : p < partitionsMax) (i : �
       ∙ (ap length (entries-extended 0 i ws ss) ∙ simp length-append (omega arith))
 
   -- where there is no room: 01's 8 and 9
-  pub append-full : (batch : List ℕ) → appendPlan (st .entries) (partitionAt p st) i (length batch) .full
+  pub append-full : (batch : List ℕ) → appendPlan last (partitionAt p st) i (length batch) .full
       ≡ fullIf (ltb (rowsMax - partitionAt p st .rows) (length batch))
         (ltb entriesMax (length (appended i batch (spansAt p st))))
   unfolding appended
   append-full [] = let q = partitionAt p st in let k = ok .partition p h in let g = k .spans-ok .entries-fit in
-      rw (appendPlan-none (st .entries) q i 0 (tests st ok p h) refl, le-ltb (rowsMax - q .rows) 0 (omega arith),
+      rw (appendPlan-none last q i 0 (tests st ok p h) refl, le-ltb (rowsMax - q .rows) 0 (omega arith),
         le-ltb entriesMax (length (spansAt p st)) g)
   append-full (w ∷ ws) = let q = partitionAt p st in let k = suc (length ws) in
-      rw (appendPlan-kept (st .entries) q i k (tests st ok p h) (λ e. omega arith), kept-is, appendAt-full kept q i k,
+      rw (appendPlan-kept last q i k (tests st ok p h) (λ e. omega arith), kept-is, appendAt-full kept q i k,
         one-too-many kept (length (extended i (w ∷ ws) (spansAt p st))) (length-extended (w ∷ ws)))
 
   -- one entry goes behind those that stay
@@ -146,12 +155,12 @@ module _ (st : Store) (ok : StoreOk st) (p : ℕ) (h : p < partitionsMax) (i : �
         ∙ over-one (b + kept) (rowsTo i (q .rows + length ws)) (st .entries) (omega arith))))
 
   -- a plan that is not full is the plan of one entry and the batch
-  append-placed : (k : ℕ) → (k ≡ 0 → ⊥) → appendPlan (st .entries) (partitionAt p st) i k .full ≡ fullIf false false
+  append-placed : (k : ℕ) → (k ≡ 0 → ⊥) → appendPlan last (partitionAt p st) i k .full ≡ fullIf false false
       → (k ≤ rowsMax - partitionAt p st .rows) × (kept < entriesMax)
-        × (appendPlan (st .entries) (partitionAt p st) i k ≡ grownBy k)
+        × (appendPlan last (partitionAt p st) i k ≡ grownBy k)
   append-placed k some full = let q = partitionAt p st in
-      let e : appendPlan (st .entries) q i k ≡ appendAt kept q i k =
-        rw (appendPlan-kept (st .entries) q i k (tests st ok p h) some, kept-is) in
+      let e : appendPlan last q i k ≡ appendAt kept q i k =
+        rw (appendPlan-kept last q i k (tests st ok p h) some, kept-is) in
       let f = sym (appendAt-full kept q i k) ∙ (ap (λ x. x .full) (sym e) ∙ full) in
       let r = ltb-false (rowsMax - q .rows) k (ap (λ x. x .rows) f) in
       let n = leb-false entriesMax kept (ap (λ x. x .entries) f) in
@@ -169,21 +178,67 @@ module _ (st : Store) (ok : StoreOk st) (p : ℕ) (h : p < partitionsMax) (i : �
         row-count = rw e (simp length-append (omega arith)); entry-count = length-extended ws }
 
   pub append-written : (batch : List ℕ)
-      → appendPlan (st .entries) (partitionAt p st) i (length batch) .full ≡ fullIf false false
-      → Written p (appended i batch (spansAt p st)) (appendPlan (st .entries) (partitionAt p st) i (length batch))
+      → appendPlan last (partitionAt p st) i (length batch) .full ≡ fullIf false false
+      → Written p (appended i batch (spansAt p st)) (appendPlan last (partitionAt p st) i (length batch))
         batch st
   unfolding appended
   append-written [] full =
-      rw (appendPlan-none (st .entries) (partitionAt p st) i 0 (tests st ok p h) refl) (stays-written st ok p h)
+      rw (appendPlan-none last (partitionAt p st) i 0 (tests st ok p h) refl) (stays-written st ok p h)
   append-written (w ∷ ws) full = let g = append-placed (suc (length ws)) (λ e. omega arith) full in
       rw (g .2) (extended-written (w ∷ ws) (g .0) (g .1) (words-appended i (w ∷ ws) (spansAt p st)))
 
   -- an append that is not full
   pub append-laid : (batch : List ℕ)
-      → appendPlan (st .entries) (partitionAt p st) i (length batch) .full ≡ fullIf false false
+      → appendPlan last (partitionAt p st) i (length batch) .full ≡ fullIf false false
       → laidInPlace p (appended i batch (spansAt p st)) st
-        ≡ writtenBy p (appendPlan (st .entries) (partitionAt p st) i (length batch)) batch st
+        ≡ writtenBy p (appendPlan last (partitionAt p st) i (length batch)) batch st
   append-laid batch full = written-laid p (appended i batch (spansAt p st)) _ batch st (append-written batch full)
+
+  -- ---- where the count of entries stays, the end of the last one moves
+
+  -- the last entry's mark is 0 or 1, as each one's is
+  last-mark : (j : ℕ) → j < partitionAt p st .entries
+      → getD (st .entries) (entriesMax * partitionAt p st .area + j) none .mark ≤ 1
+  last-mark j f = let q = partitionAt p st in let b = entriesMax * q .area in let k = ok .partition p h in
+      let es = part b (q .entries) (st .entries) in let n = length-part b (q .entries) (st .entries) (entries-inside st
+        ok p h) in
+      let o = rw (k .entries-are) at (entries-ok (managerOf st) (spansAt p st) (k .spans-ok)) in
+      let e : getD es j none ≡ getD (st .entries) (b + j) none =
+        getD-take (q .entries) (drop b (st .entries)) j none f ∙ getD-drop b (st .entries) j none in
+      let t = All-getD (λ x. entryOk (managerOf st) x ≡ true) none es (All-allOf (entryOk (managerOf st)) es (o .each))
+        j (omega arith) in
+      rw (← e) (leb-true (getD es j none .mark) 1 (and-left (leb (getD es j none .mark) 1) _ t))
+
+  last-grows : kept + 1 ≡ partitionAt p st .entries → grows i last ≡ true
+  unfolding keptIn
+  last-grows e = let q = partitionAt p st in let k = kept-is in
+      split (grows i last) (λ t. t)
+      (λ f. absurd (let z = rw (lt-ltb 0 (q .entries) (omega arith), f) at k in omega arith))
+
+  pub append-moves : (batch : List ℕ)
+      → appendPlan last (partitionAt p st) i (length batch) .full ≡ fullIf false false
+      → appendPlan last (partitionAt p st) i (length batch) .entries ≡ partitionAt p st .entries
+      → let plan = appendPlan last (partitionAt p st) i (length batch) in
+        movedEnd (st .entries) (plan .index) (plan .entry .end) ≡ set (st .entries) (plan .index) (plan .entry)
+  append-moves [] full same = let n = ok .entries-length in let es = st .entries in
+      rw (appendPlan-none last (partitionAt p st) i 0 (tests st ok p h) refl)
+        (set-out es 576 _ (omega arith) ∙ sym (set-out es 576 _ (omega arith)))
+  append-moves (w ∷ ws) full same = let g = append-placed (suc (length ws)) (λ e. omega arith) full in
+      let q = partitionAt p st in
+      let e : kept + 1 ≡ q .entries = sym (ap (λ x. x .entries) (g .2)) ∙ same in
+      let t = last-grows e in
+      let k : kept ≡ q .entries - 1 = omega arith in
+      let m = last-mark (q .entries - 1) (omega arith) in
+      let o = eqb-true (last .epoch) i (and-right (not (eqb (last .mark) 1)) (eqb (last .epoch) i) t) in
+      let z : last .mark ≡ 0 = split-eq (last .mark) 1
+        (λ y. absurd (let u = rw (eq-eqb (last .mark) 1 y) at t in let v : _≡_ {A = ℕ} 0 1 = cc in omega arith))
+        (λ n. one-or-none (last .mark) m n) in
+      rw (g .2, k) (λ y. set (st .entries) (entriesMax * q .area + (q .entries - 1))
+        (record { epoch = o y; end = q .rows + suc (length ws); mark = z y }))
+    where
+      one-or-none : (n : ℕ) → n ≤ 1 → (n ≡ 1 → ⊥) → n ≡ 0
+      one-or-none zero l n = refl
+      one-or-none (suc k) l n = absurd (n (omega arith))
 
 -- ---- clear
 

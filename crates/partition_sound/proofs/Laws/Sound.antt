@@ -1,24 +1,22 @@
 -- Laws of the soundness tests: one pass over the entries finds partitionOkBy, which is rules' partitionOk.
--- In order: one pass, where it starts, a turn of it, all partitions and *sound*.
+-- In order: one pass, all partitions and *sound*.
 -- Definitions: specs/Sound.antt.
 -- Assumes nothing.
 use mathlib.Core.Path.{_≡_, refl, sym, _∙_}
 use mathlib.Core.Bool.{Bool, true, false, not, _&&_, _||_, and-false, and-true, and-assoc}
 use mathlib.Core.List.{List, [], _∷_}
-use Prim.Native.Nat.{ℕ, _+_, _*_, _≤_, _<_}
+use Prim.Native.Nat.{ℕ, _*_, _≤_}
 use native.Mathlib.Omega.{arith}
-use lib.ListN.{length, take, drop, getD, length-append, length-drop}
-use lib.Seq.{getD-drop}
+use lib.ListN.{length, take, length-append}
 use lib.Dec.{ltb, leb, eqb}
-use borrow.Author.Tests.{leb-true, lt-ltb}
 use Rattle.lists.specs.Lists.{allOf, part}
-use Rattle.lists.proofs.Laws.Bools.{and-right}
 use Rattle.lists.proofs.Laws.Parts.{take-pad}
-use Rattle.lists.proofs.Laws.Places.{used-next, used-end}
-use Rattle.rules.specs.Limits.{writersMax, areasMax, rowsMax, entriesMax}
+use Rattle.rules.specs.Limits.{writersMax, rowsMax, entriesMax}
+use Rattle.rules.specs.Manager.{recordsOf}
 use Rattle.rules.specs.Store.{Store, managerOf}
 use Rattle.rules.specs.WellFormed.{managerOk, areasOk, epochOk, endsOk, alike, apart, partitionOk, lengthsOk}
 use Rattle.rules.specs.WellFormed.{wellFormed}
+use Rattle.rules.proofs.Laws.Views.{epochs-views}
 use Rattle.rules.specs.declared.Clock.{Clock}
 use Rattle.rules.specs.declared.Entry.{Entry}
 use Rattle.rules.specs.declared.Manager.{Manager}
@@ -28,7 +26,6 @@ use Rattle.rules.specs.declared.RwTxns.{RwTxns}
 use Rattle.partition_sound.specs.Sound.{epochsOf, epochOkBy, entryOkBy, partitionOkBy, follows, beforeFirst}
 use Rattle.partition_sound.specs.Sound.{chained, epochsWith, partitionsOk}
 use Rattle.partition_sound.specs.declared.Epochs.{Epochs}
-use Rattle.area.specs.Area.{baseOf}
 
 -- ---- one pass
 
@@ -72,32 +69,6 @@ module _ (c : Clock) (js : List ℕ) (entries : List Entry) (q : Partition) wher
   partitionOkBy-pass t = let es = part (entriesMax * q .area) (q .entries) entries in
       rw (t, chained-is c js (q .rows) beforeFirst es, apart-first es)
 
--- where the pass starts
-pub pass-starts : (c : Clock) (js : List ℕ) (entries : List Entry) (q : Partition) (base : ℕ) (d : Entry)
-    → countsOk q ≡ true → length entries ≡ entriesMax * areasMax → q .area < areasMax
-    → base ≡ baseOf entriesMax (q .area) → d ≡ beforeFirst
-    → (base + q .entries ≤ length entries)
-      × (partitionOkBy c js entries q ≡ chained c js (q .rows) d (part base (q .entries) entries))
-pass-starts c js entries q base d t l a e f =
-    let n = leb-true (q .entries) entriesMax (and-right (leb (q .rows) rowsMax) (leb (q .entries) entriesMax) t) in
-    let b : base ≡ entriesMax * q .area = e ∙ rw (lt-ltb (q .area) areasMax a) in
-    (omega arith, rw (b, f) (partitionOkBy-pass c js entries q t))
-
--- ---- a turn of the pass: entry i of the n from base on
-
-module _ (c : Clock) (js : List ℕ) (rows : ℕ) (d : Entry) (xs : List Entry) (base n : ℕ)
-    (inside : base + n ≤ length xs) (i : ℕ) where
-  pub chained-step : (e : Entry) (r : Bool) → i < n → r ≡ follows c js d (getD xs (base + i) e)
-      → chained c js rows d (drop i (part base n xs))
-        ≡ r && chained c js rows (getD xs (base + i) e) (drop (i + 1) (part base n xs))
-  unfolding chained
-  chained-step e r h f = let l = length-drop base xs in
-      rw (f, used-next (drop base xs) n _ refl e i (omega arith), getD-drop base xs i e)
-
-  pub chained-end : n ≤ i → chained c js rows d (drop i (part base n xs)) ≡ eqb (d .end) rows
-  unfolding chained
-  chained-end h = rw (used-end (drop base xs) n _ refl i (omega arith))
-
 -- ---- all partitions
 
 -- the epochs that were listed, as a list again
@@ -117,7 +88,7 @@ module _ (m : Manager) (entries : List Entry) (ps : Partitions) where
   pub partitionsOk-each : (js : List ℕ) (r : Bool) → areasOk ps ≡ true → js ≡ epochsOf (m .writers)
       → allOf (partitionOkBy (m .clock) js entries) (ps .at) ≡ r → partitionsOk m entries ps ≡ r
   unfolding partitionsOk partitionOkBy partitionOk epochOkBy epochOk
-  partitionsOk-each js r t e f = rw (t, ← f, e)
+  partitionsOk-each js r t e f = rw (t, ← f, e ∙ sym (epochs-views (m .deps) (recordsOf m)))
 
 -- 01's *sound*: the lent areas, the manager, the partitions
 pub wellFormed-is : (st : Store) → wellFormed st

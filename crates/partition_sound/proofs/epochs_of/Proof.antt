@@ -13,7 +13,8 @@ use Rattle.lists.proofs.Laws.Places.{used-length, pad-next}
 use Rattle.rules.specs.Limits.{writersMax}
 use Rattle.rules.specs.declared.RwTxn.{RwTxn}
 use Rattle.rules.specs.declared.RwTxns.{RwTxns}
-use Rattle.txn_find.proofs.Laws.Places.{pastRw, writers-32}
+use Rattle.rules.specs.Manager.{noRw}
+use Rattle.txn_find.proofs.Laws.Places.{writers-32}
 use Rattle.partition_sound.specs.Sound.{epochsOf}
 use Rattle.partition_sound.proofs.epochs_of.Statement.{statement}
 use Rattle.partition_sound.proofs.epochs_of.Tie as tie
@@ -30,9 +31,9 @@ epochs-length : (ts : RwTxns) → length (ts .at) ≡ writersMax → length (epo
 epochs-length ts w = length-map (take (ts .count) (ts .at)) (λ (t : RwTxn). t .epoch)
     ∙ used-length (ts .at) (ts .count) writersMax w
 
-epoch-at : (ts : RwTxns) (i : ℕ) → i < ts .count → getD (epochsOf ts) i 0 ≡ getD (ts .at) i pastRw .epoch
-epoch-at ts i h = List·getD-map (λ (t : RwTxn). t .epoch) (take (ts .count) (ts .at)) i pastRw
-    ∙ ap (λ (t : RwTxn). t .epoch) (getD-take (ts .count) (ts .at) i pastRw h)
+epoch-at : (ts : RwTxns) (i : ℕ) → i < ts .count → getD (epochsOf ts) i 0 ≡ getD (ts .at) i noRw .epoch
+epoch-at ts i h = List·getD-map (λ (t : RwTxn). t .epoch) (take (ts .count) (ts .at)) i noRw
+    ∙ ap (λ (t : RwTxn). t .epoch) (getD-take (ts .count) (ts .at) i noRw h)
 
 loop-holds : tie.Need-loop-holds Inv-loop μ-loop
 loop-holds c = (omega arith, c .in-use .ensures, writers-32 (c .before .args .t1) _ (c .before .good .0), refl)

@@ -6,18 +6,15 @@ use Rattle.plan_purge.proofs.purge_at.Statement.{statement}
 use Rattle.plan_purge.proofs.purge_at.Tie as tie
 
 returns : tie.Need-returns
-returns c = let k = c .before .before in let a = k .before in
-    c .unwritten .ensures ∙ rw (← a .read .ensures, sym (k .skips .ensures) ∙ c .before .if1 .taken)
+returns c = c .unwritten .ensures ∙ rw (sym (c .before .before .skips .ensures) ∙ c .before .if1 .taken)
 
 returns-2 : tie.Need-returns-2
-returns-2 c = let k = c .before .before in let a = k .before in
-    c .moved .ensures ∙ rw (← a .read .ensures, sym (k .skips .ensures) ∙ c .before .if1 .left)
+returns-2 c = c .moved .ensures ∙ rw (sym (c .before .before .skips .ensures) ∙ c .before .if1 .left)
 
 pub purge-at-spec : {M : Type 1} → statement M
 purge-at-spec =
     tie.close
     (tie.spec
-    (λ c κs. search needs)
     (λ c κs. search needs)
     (λ c κs. search needs)
     returns

@@ -7,8 +7,8 @@ use denote.Triple.Table.{entered, cited}
 use Rattle.rules.specs.Limits.{entriesMax}
 use Rattle.shapes.proofs.Saves.{PutEntry, Place, Area}
 use Rattle.shapes.proofs.Saving.{meets}
-use Rattle.lent.proofs.put_entry.Symbol as put-entry
-use Rattle.lent.proofs.put_entry.Met as put-entry-thm
+use Rattle.lent.proofs.append_entry.Symbol as append-entry
+use Rattle.lent.proofs.append_entry.Met as append-entry-thm
 use Rattle.plan_purge.specs.Purge.{placeOf, newOf}
 use Rattle.plan_purge.proofs.Types.{purge}
 use Rattle.plan_purge.proofs.place_of.Symbol as place-of
@@ -28,8 +28,8 @@ put-purge-spec 𝓤 H 𝓜 𝓖 𝓡 =
     (code.unfolded 𝓤 H 𝓜 𝓡)
     (meets entriesMax purge (omega arith) tt place-of.name entries-of.name placeOf newOf
     𝓤 H (𝓖 .A) (givenOf 𝓤 H 𝓜 𝓖) (𝓜 .mem) (𝓡 .run) (tablesOf 𝓤 H 𝓜 (tables 𝓤 H 𝓜 𝓡 code.env))
-    (cited 𝓤 H (PutEntry 𝓤 H (𝓖 .A) (𝓜 .mem) (𝓡 .run)) 𝓜 𝓡 code.env put-entry.name put-entry.routine
-      code.calls-lent·put-entry (put-entry-thm.met 𝓤 H 𝓜 𝓖 𝓡))
+    (cited 𝓤 H (PutEntry 𝓤 H (𝓖 .A) (𝓜 .mem) (𝓡 .run)) 𝓜 𝓡 code.env append-entry.name append-entry.routine
+      code.calls-lent·append-entry (append-entry-thm.met 𝓤 H 𝓜 𝓖 𝓡))
     (cited 𝓤 H (Place entriesMax purge placeOf newOf 𝓤 H (𝓖 .A)) 𝓜 𝓡 code.env place-of.name place-of.routine
       code.calls-plan-purge·place-of (place-of-thm.met 𝓤 H 𝓜 𝓖 𝓡))
     (cited 𝓤 H (Area entriesMax purge placeOf newOf 𝓤 H (𝓖 .A)) 𝓜 𝓡 code.env entries-of.name entries-of.routine

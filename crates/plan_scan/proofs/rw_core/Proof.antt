@@ -1,20 +1,91 @@
--- `plan_scan::rw_core` meets its contract: refused, or a scan of the partition that it is admitted to.
+-- `plan_scan::rw_core` meets its contract: refused, or a scan of the partition that it is admitted to, with the deps of
+-- the record that is found.
 -- Assumes nothing.
+use mathlib.Core.Path.{_≡_, sym, ap, _∙_}
+use mathlib.Core.Bool.{_&&_}
+use mathlib.Core.List.{List}
+use Prim.Native.Nat.{ℕ, _*_, _<_, min}
+use native.Mathlib.Omega.{arith}
+use lib.ListN.{take, drop, getD, length-take}
+use lib.Seq.{take-all}
 use borrow.Author.Needs.{needs}
+use Rattle.lists.specs.Lists.{part}
+use Rattle.rules.specs.Limits.{writersMax, depsMax}
+use Rattle.rules.specs.Manager.{noWriter, noRw, writersOf, view, opens, depsAt}
+use Rattle.rules.specs.declared.Manager.{Manager}
+use Rattle.visible.specs.declared.Deps.{Deps}
+use Rattle.visible.specs.View.{depsWith}
+use Rattle.txn_find.specs.Find.{rowAt}
+use Rattle.txn_find.proofs.Laws.Find.{Stands, writer-stands, writer-none}
+use Rattle.rules.specs.WellFormed.{managerOk}
+use Rattle.txn.proofs.Laws.Records.{parts-sound-is}
 use Rattle.plan_scan.specs.Scan.{rwLook}
 use Rattle.plan_scan.proofs.rw_core.Statement.{statement}
 use Rattle.plan_scan.proofs.rw_core.Tie as tie
 
+-- a row that is there has no more words than are taken of it
+row-whole : (n j : ℕ) (ds : List ℕ) → j < writersMax → take depsMax (rowAt n j ds) ≡ take n (part (depsMax * j)
+    depsMax ds)
+row-whole n j ds h = let e : min j writersMax ≡ j = omega arith in let r = part (depsMax * j) depsMax ds in
+    rw e (take-all depsMax (take n r) (omega (arith, length-take n r, length-take depsMax (drop (depsMax * j) ds))))
+
+-- the row of the record that was found, in places
+deps-read : (m : Manager) (i : ℕ) {j : ℕ} {row : List ℕ} {ds : Deps}
+    → Stands (opens i) (writersOf m) (m .writers .count) writersMax
+      (view (part (depsMax * j) depsMax (m .deps)) (getD (m .writers .at) j noRw)) j
+    → row ≡ rowAt (getD (m .writers .at) j noRw .deps) j (m .deps) → ds ≡ depsWith (take depsMax row)
+    → ds ≡ depsWith (depsAt i m)
+deps-read m i {j} w r d = d ∙ ap depsWith (ap (take depsMax) r
+    ∙ (row-whole (getD (m .writers .at) j noRw .deps) j (m .deps) (omega (arith, w .below))
+    ∙ sym (ap (λ x. x .deps) (w .first noWriter))))
+
+-- where the test of soundness was made, and where the function began
+
+abbrev tested : tie.After-admit → tie.After-parts-sound
+tested a = a .before .before
+
+abbrev start : tie.After-admit → tie.Start
+start a = tested a .before .before .before .before .before .before .before
+
+sound : (a : tie.After-admit) → let s = start a in
+    tested a .parts-sound .result ≡ (s .args .rest && managerOk (s .args .t1 .manager))
+sound a = let s = start a in
+    parts-sound-is (s .args .t1 .manager) (s .args .rest) (s .good .0 .1 .1 .0) (tested a .parts-sound .ensures)
+
 returns : tie.Need-returns
 unfolding rwLook
-returns c = let k = c .before .before in let a = k .before .before in
-    rw (← a .before .has-open .ensures, ← a .admit .ensures, k .admitted .given .1) (c .refused .ensures)
+returns c = let t = c .before in let f = t .before .before in let k = f .before .before .before in
+    let a = k .before .before in
+    rw (← sound a, ← a .admit .ensures, k .admitted2 .given .1,
+      writer-none (start a .args .t1 .manager) _ (f .find-writer .ensures) (t .enum-told .given .1) .any)
+    (c .refused2 .ensures)
+
+mul-n : tie.Need-mul-n
+mul-n c = let j = c .before in let f = j .before .before in let s = start (f .before .before .before .before .before) in
+    omega (arith, writer-stands (s .args .t1 .manager) _ (s .good .0 .1 .1 .0) (f .find-writer .ensures) (j .j .given
+      .1) .below)
+
+element-copy-out-n : tie.Need-element-copy-out-n
+element-copy-out-n c = let j = c .before in let f = j .before .before in
+    let s = start (f .before .before .before .before .before) in
+    omega (arith, writer-stands (s .args .t1 .manager) _ (s .good .0 .1 .1 .0) (f .find-writer .ensures) (j .j .given
+      .1) .below)
 
 returns-2 : tie.Need-returns-2
 unfolding rwLook
-returns-2 c = let d = c .before in let k = d .before .before in let a = k .before .before in
-    rw (← a .before .has-open .ensures, ← a .admit .ensures, k .admitted2 .given .1, ← d .deps-at .ensures)
-    (c .scan-partition .ensures)
+returns-2 c = let k = c .before .before in let a = k .before .before in
+    rw (← sound a, ← a .admit .ensures, k .admitted .given .1) (c .refused .ensures)
+
+returns-3 : tie.Need-returns-3
+unfolding rwLook
+returns-3 c = let ip = c .before in let ro = ip .before in
+    let j = ro .before .before .before .before .before in let f = j .before .before in
+    let k = f .before .before .before in let a = k .before .before in let s = start a in
+    let m = s .args .t1 .manager in
+    let w = writer-stands m _ (s .good .0 .1 .1 .0) (f .find-writer .ensures) (j .j .given .1) in
+    let e = deps-read m (s .args .i) w (ro .row-of .ensures) (ip .in-places .ensures) in
+    rw (← sound a, ← a .admit .ensures, k .admitted2 .given .1, w .any)
+      (rw (← e) (c .scan-partition .ensures))
 
 pub rw-core-spec : {M : Type 1} → statement M
 rw-core-spec =
@@ -26,6 +97,14 @@ rw-core-spec =
     (λ c κs. search needs)
     (λ c. search needs)
     (λ c κs. search needs)
+    (λ c. search needs)
+    (λ c. search needs)
     (λ c κs. search needs)
     returns
-    returns-2)
+    mul-n
+    element-copy-out-n
+    (λ c κs. search needs)
+    (λ c κs. search needs)
+    (λ c κs. search needs)
+    returns-2
+    returns-3)

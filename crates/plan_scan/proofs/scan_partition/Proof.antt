@@ -1,13 +1,12 @@
 -- `plan_scan::scan_partition` meets its contract: too few bytes are refused, else the scan of the
 -- partition's entries.
 -- Assumes nothing.
-use mathlib.Core.Path.{ap, _∙_}
+use mathlib.Core.Path.{_∙_}
 use borrow.Author.Needs.{needs}
 use borrow.Author.Tests.{lt-ltb, le-ltb}
 use Rattle.rules.specs.Bitmap.{bytesFor}
 use Rattle.rules.specs.declared.Answer.the-variants.{Scanned}
-use Rattle.visible.specs.Scan.{scanned, bitmapScanned}
-use Rattle.plan_scan.specs.Scan.{noBits, lookAt}
+use Rattle.plan_scan.specs.Scan.{lookAt}
 use Rattle.plan_scan.proofs.scan_partition.Statement.{statement}
 use Rattle.plan_scan.proofs.scan_partition.Tie as tie
 
@@ -19,12 +18,10 @@ returns c = c .refused .ensures
 returns-2 : tie.Need-returns-2
 unfolding lookAt
 returns-2 c =
-    let e = c .before .before .before in let f = e .before in let n = f .before .bytes-for in
-    let a = f .before .before .args in let r = c .before .scan .ensures in
-    let ones = ap (λ x. x .ones) (r .0) ∙ ap (λ x. scanned (a .v) x (a .q .rows) noBits .ones) (e .read .ensures) in
-    let bits = r .1 ∙ ap (λ x. bitmapScanned (a .v) x (a .q .rows) noBits) (e .read .ensures) in
+    let f = c .before .before .before in let n = f .before .bytes-for in let a = f .before .before .args in
+    let r = c .before .scan .ensures in
     rw (le-ltb (a .k) (bytesFor (a .q .rows)) (rw (n .ensures) at (f .if1 .left)))
-      (λ j. record { answer = Scanned (a .q .rows) (ones j); bits = bits j; count = (n .ensures) j })
+      (λ j. record { answer = Scanned (a .q .rows) (r .0 j .ones); bits = r .1 j; count = (n .ensures) j })
 
 pub scan-partition-spec : {M : Type 1} → statement M
 scan-partition-spec =
@@ -33,7 +30,6 @@ scan-partition-spec =
     (λ c κs. search needs)
     (λ c κs. search needs)
     returns
-    (λ c κs. search needs)
     (λ c. search needs)
     (λ c κs. search needs)
     returns-2)

@@ -32,7 +32,8 @@ use Rattle.session_text.specs.Grammar.{letterOf}
 use Rattle.session_text.specs.Print.{lineOf, printed}
 use types.Run.{OneOf, miss}
 use denote.Enum.Declared.{tagOf}
-use Rattle.replay.specs.Shown.{shownWords, fitting, areaOf, shownIn}
+use Rattle.store.specs.Part.{areaOf}
+use Rattle.replay.specs.Shown.{shownWords, fitting, shownIn}
 
 pub bit-past : (bytes : List ℕ) (i : ℕ) → length bytes ≤ i / 8 → bitAt bytes i ≡ false
 bit-past bytes i h = rw (List·getD-eq-default bytes 0 h, zero-div (2 ^ (i % 8)))

@@ -10,10 +10,10 @@ use native.Mathlib.Omega.{arith}
 use lib.Dec.{ltb, leb, eqb}
 use lib.ListN.{length, take, drop, replicate}
 use lib.Seq.{take-take}
-use borrow.Author.Tests.{leb-true, le-leb, eqb-true, eqb-false, ne-eqb}
+use borrow.Author.Tests.{leb-true, le-leb, lt-leb, eqb-true, eqb-false, ne-eqb}
 use Rattle.lists.specs.Lists.{keepIf, pad, part, over, elem}
 use Rattle.lists.proofs.Laws.All.{All, All-imp}
-use Rattle.lists.proofs.Laws.Bools.{split}
+use Rattle.lists.proofs.Laws.Bools.{split, and-false}
 use Rattle.lists.proofs.Laws.Parts.{take-pad, drop-take, length-part, take-part}
 use Rattle.lists.proofs.Laws.Tests.{and-three}
 use Rattle.rules.specs.Limits.{rowsMax, entriesMax}
@@ -120,6 +120,12 @@ dated m ss a = All-imp (EpochOk m) Dated (λ s h. leb-true 1 (s .epoch)
 
 pub area-entries : (ts : List Span) → entriesIn (areaOf ts) ≡ entriesOf 0 ts
 area-entries ts = rw (← length-entriesOf 0 ts) (take-pad entriesMax none (entriesOf 0 ts))
+
+-- no area lies apart from itself
+pub copied-nowhere : (a : Area) (plan : Plan) (n : ℕ) (rs : List ℕ) → rowsCopied a plan n n rs ≡ rs
+unfolding rowsCopied copyOk
+copied-nowhere a plan n rs = let b = leb (n + rowsMax) (length rs) in
+    rw (lt-leb (n + rowsMax) n (omega arith), and-false b, and-false b, and-false (endsFit 0 (entriesIn a)))
 
 -- ---- an area whose entries have so many rows, with its words
 

@@ -16,20 +16,20 @@ use Rattle.lists.specs.Lists.{keepIf, anyOf, elem}
 use Rattle.lists.proofs.Laws.Bools.{split, and-false, or-left, or-right, or-cases}
 use Rattle.lists.proofs.Laws.Filter.{any-in, in-keepIf, in-elem, elem-in}
 use Rattle.lists.proofs.Laws.Tests.{and-three}
-use Rattle.rules.specs.Manager.{isOpen, opens, hasOpen, writersOf}
+use Rattle.rules.specs.Manager.{Writer, isOpen, opens, hasOpen, writersOf}
 use Rattle.rules.specs.Begin.{begunTxn, begunManager}
 use Rattle.rules.specs.Close.{committedTxns, droppedTxns, settledLce, settled, committedManager}
 use Rattle.rules.specs.Close.{rolledBackManager}
 use Rattle.rules.specs.ReadOnly.{begunRoManager, endedRoManager}
 use Rattle.rules.specs.Safe.{advancedManager}
 use Rattle.rules.specs.WellFormed.{epochOk, managerOk}
-use Rattle.rules.specs.declared.RwTxn.{RwTxn}
 use Rattle.rules.specs.declared.Manager.{Manager}
-use Rattle.rules.proofs.Laws.Manager.{epochs, manager-facts, writersOf-with, opens-epoch, open-range}
+use Rattle.rules.proofs.Laws.Manager.{epochs, manager-facts, opens-epoch, open-range}
+use Rattle.rules.proofs.Laws.Views.{epochs-with}
 use Rattle.rules.proofs.Laws.Close.{kept, settled-rises, epochs-committed}
 
 -- up to LCE, or the epoch of a transaction
-abbrev pub known : ℕ → List RwTxn → ℕ → Bool
+abbrev pub known : ℕ → List Writer → ℕ → Bool
 known lce ts j = leb j lce || elem j (epochs ts)
 
 pub record EpochFacts (m : Manager) (j : ℕ) : Type 0 where
@@ -53,9 +53,9 @@ pub hasOpen-range : (m : Manager) → managerOk m ≡ true → (i : ℕ) → has
     → (m .clock .lce < i) × (i < m .clock .ec)
 hasOpen-range m ok i h = open-range (m .clock) (writersOf m) (manager-facts m ok .writers) i h
 
-pub opens-known : (i : ℕ) (ts : List RwTxn) → anyOf (opens i) ts ≡ true → elem i (epochs ts) ≡ true
+pub opens-known : (i : ℕ) (ts : List Writer) → anyOf (opens i) ts ≡ true → elem i (epochs ts) ≡ true
 opens-known i ts h = let w = any-in (opens i) ts h in
-    in-elem (Memᴰ·cast (sym (opens-epoch i (w .it) (w .passes))) (Memᴰ·map (λ (t : RwTxn). t .epoch) (w .at)))
+    in-elem (Memᴰ·cast (sym (opens-epoch i (w .it) (w .passes))) (Memᴰ·map (λ (t : Writer). t .epoch) (w .at)))
 
 pub hasOpen-epochOk : (m : Manager) → managerOk m ≡ true → (i : ℕ) → hasOpen i m ≡ true → epochOk m i ≡ true
 hasOpen-epochOk m ok i h = let r = hasOpen-range m ok i h in epoch-ok m i (record {
@@ -86,29 +86,29 @@ unfolding begunManager
 begun-epochOk m j h = let f = epoch-facts m j h in let ts = writersOf m in let new = begunTxn (m .clock .ec) ts in
     epoch-ok (begunManager m) j (record {
       low = f .low; high = (let l = f .high in omega arith);
-      has = rw (writersOf-with (ts ++ (new ∷ [])) m, map-append (λ (t : RwTxn). t .epoch) ts (new ∷ []))
+      has = rw (epochs-with (ts ++ (new ∷ [])) m, map-append (λ (t : Writer). t .epoch) ts (new ∷ []))
         (known-more (m .clock .lce) (epochs ts) (m .clock .ec ∷ []) j (f .has)) })
 
 -- ---- commit and roll back
 
 -- what is dropped as LCE settles is at or below it
-pub settled-known : (lce : ℕ) (ts : List RwTxn) (j : ℕ) → known lce ts j ≡ true
+pub settled-known : (lce : ℕ) (ts : List Writer) (j : ℕ) → known lce ts j ≡ true
     → known (settledLce lce ts) (keepIf (kept (settledLce lce ts)) ts) j ≡ true
 settled-known lce ts j h = let to = settledLce lce ts in let up = settled-rises lce ts in split (leb j to)
   (λ t. or-left (leb j to) _ t)
   (λ n. let g = leb-false j to n in or-cases (leb j lce) (elem j (epochs ts)) h
     (λ t. let l = leb-true j lce t in absurd (omega arith))
-    (λ c t. let w = Memᴰ·of-map (λ (u : RwTxn). u .epoch) ts (elem-in j (epochs ts) t) in let e = w .2 in
+    (λ c t. let w = Memᴰ·of-map (λ (u : Writer). u .epoch) ts (elem-in j (epochs ts) t) in let e = w .2 in
       let k = in-keepIf (kept to) (w .1) (or-right (isOpen (w .0)) _ (lt-ltb to (w .0 .epoch) (omega arith))) in
-      or-right (leb j to) _ (in-elem (Memᴰ·cast (sym e) (Memᴰ·map (λ (u : RwTxn). u .epoch) k)))))
+      or-right (leb j to) _ (in-elem (Memᴰ·cast (sym e) (Memᴰ·map (λ (u : Writer). u .epoch) k)))))
 
-pub settled-epochOk : (m : Manager) (ts : List RwTxn) (j : ℕ) → epochOk m j ≡ true → known (m .clock .lce) ts j ≡ true
+pub settled-epochOk : (m : Manager) (ts : List Writer) (j : ℕ) → epochOk m j ≡ true → known (m .clock .lce) ts j ≡ true
     → epochOk (settled ts m) j ≡ true
 unfolding settled
 settled-epochOk m ts j h k = let f = epoch-facts m j h in let to = settledLce (m .clock .lce) ts in
     epoch-ok (settled ts m) j (record {
       low = f .low; high = f .high;
-      has = rw (writersOf-with (keepIf (kept to) ts) m) (settled-known (m .clock .lce) ts j k) })
+      has = rw (epochs-with (keepIf (kept to) ts) m) (settled-known (m .clock .lce) ts j k) })
 
 pub committed-epochOk : (i : ℕ) (m : Manager) (j : ℕ) → epochOk m j ≡ true → epochOk (committedManager i m) j ≡ true
 unfolding committedManager
@@ -116,15 +116,15 @@ committed-epochOk i m j h = settled-epochOk m (committedTxns i (writersOf m)) j 
     (rw (epochs-committed i (writersOf m)) (epoch-facts m j h .has))
 
 -- only transaction i is dropped
-pub dropped-known : (i lce : ℕ) (ts : List RwTxn) (j : ℕ) → (j ≡ i → ⊥) → known lce ts j ≡ true
+pub dropped-known : (i lce : ℕ) (ts : List Writer) (j : ℕ) → (j ≡ i → ⊥) → known lce ts j ≡ true
     → known lce (droppedTxns i ts) j ≡ true
 unfolding droppedTxns
 dropped-known i lce ts j ne h = or-cases (leb j lce) (elem j (epochs ts)) h
   (λ t. or-left (leb j lce) _ t)
-  (λ n t. let w = Memᴰ·of-map (λ (u : RwTxn). u .epoch) ts (elem-in j (epochs ts) t) in let e = w .2 in
-    let k = in-keepIf (λ (u : RwTxn). not (opens i u)) (w .1)
+  (λ n t. let w = Memᴰ·of-map (λ (u : Writer). u .epoch) ts (elem-in j (epochs ts) t) in let e = w .2 in
+    let k = in-keepIf (λ (u : Writer). not (opens i u)) (w .1)
           (rw (ne-eqb (w .0 .epoch) i (λ q. ne (sym e ∙ q)), and-false (isOpen (w .0)))) in
-    or-right (leb j lce) _ (in-elem (Memᴰ·cast (sym e) (Memᴰ·map (λ (u : RwTxn). u .epoch) k))))
+    or-right (leb j lce) _ (in-elem (Memᴰ·cast (sym e) (Memᴰ·map (λ (u : Writer). u .epoch) k))))
 
 pub rolledBack-epochOk : (i : ℕ) (m : Manager) (j : ℕ) → (j ≡ i → ⊥) → epochOk m j ≡ true
     → epochOk (rolledBackManager i m) j ≡ true

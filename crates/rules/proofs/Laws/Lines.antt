@@ -183,14 +183,6 @@ module _ (s a : ℕ → Bool) where
   shows-noneIn all (row j w ∷ ys) h = rw (h .0) (shows-noneIn all ys (h .1))
   shows-noneIn all (delete k ∷ ys) h = shows-noneIn all ys (h .1)
 
-  pub shows-none : ((j : ℕ) → s j ≡ false) → (ls : List Line) → shows s a ls ≡ []
-  unfolding shows
-  shows-none h ls = shows-noneIn ls ls (All-every _ pt ls)
-    where
-      pt : (x : Line) → RowUnseen s x
-      pt (row j w) = h j
-      pt (delete k) = tt
-
   pub shows-unseen : (ls ys : List Line) → AllLines (Unseen s a) ys → shows s a (ls ++ ys) ≡ shows s a ls
   unfolding shows
   shows-unseen ls ys h = shows-addedIn ys (All-imp _ _ unseen-unapplied ys h) ls ls

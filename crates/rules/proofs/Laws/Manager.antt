@@ -1,5 +1,5 @@
 -- What managerOk (specs/WellFormed.antt) says, as facts by name, and the test from the facts.
--- In order: the facts, deps and status of one transaction, the test and the facts, lists read back as
+-- In order: the facts, the status of one transaction, the test and the facts, lists read back as
 -- written, where an open transaction's epoch lies.
 -- Assumes nothing.
 use mathlib.Core.Path.{_≡_, refl, sym, _∙_}
@@ -7,28 +7,27 @@ use mathlib.Core.Bool.{Bool, true, false, _&&_}
 use mathlib.Core.List.{List, map, List·Memᴰ as In, Memᴰ·map}
 use Prim.Native.Nat.{ℕ, suc, _-_, _≤_, _<_}
 use native.Mathlib.Omega.{arith}
-use lib.ListN.{length, drop}
+use lib.ListN.{length, drop, length-map}
 use lib.Dec.{ltb, leb, eqb}
 use borrow.Author.Tests.{ltb-true, leb-true, eqb-true, lt-ltb, le-leb, eq-eqb}
 use Rattle.lists.specs.Lists.{anyOf, allOf, rises}
+use Rattle.lists.proofs.Laws.All.{All}
 use Rattle.lists.proofs.Laws.Bools.{and-left, and-right, or-right, or-cases}
 use Rattle.lists.proofs.Laws.Filter.{all-in, all-of, any-in, allOf-replicate}
 use Rattle.lists.proofs.Laws.Order.{rises-in}
 use Rattle.lists.proofs.Laws.Parts.{take-pad, drop-pad}
-use Rattle.lists.proofs.Laws.Tests.{and-three, and-four, and-five, and-six, no-proof}
-use Rattle.rules.specs.Limits.{lastEpoch, lastTicket, writersMax, readersMax, depsMax}
-use Rattle.rules.specs.Manager.{noRw, noRo, isOpen, opens, depsOf, writersOf, readersOf, depsWith}
-use Rattle.rules.specs.Manager.{withClock}
-use Rattle.rules.specs.Manager.{withWriters, withReaders}
-use Rattle.rules.specs.WellFormed.{clockOk, zeros, depsOk, statusOk, unusedRw, writersOk, unusedRo}
-use Rattle.rules.specs.WellFormed.{readersOk}
-use Rattle.rules.specs.WellFormed.{managerOk}
+use Rattle.lists.proofs.Laws.Tests.{and-three, and-four, and-six, and-seven, no-proof}
+use Rattle.rules.specs.Limits.{lastEpoch, lastTicket, writersMax, readersMax}
+use Rattle.rules.specs.Manager.{Writer, noRw, noRo, recordsOf, writersOf, readersOf, recordOf, isOpen, opens}
+use Rattle.rules.specs.Manager.{withClock, withWriters, withReaders}
+use Rattle.rules.specs.WellFormed.{clockOk, roomOk, depsOk, statusOk, unusedRw, sparesZero, writersOk, unusedRo}
+use Rattle.rules.specs.WellFormed.{readersOk, managerOk}
 use Rattle.rules.specs.declared.Clock.{Clock}
-use Rattle.rules.specs.declared.RwTxn.{RwTxn}
 use Rattle.rules.specs.declared.RoTxn.{RoTxn}
 use Rattle.rules.specs.declared.Manager.{Manager}
+use Rattle.rules.proofs.Laws.Views.{Fits, views-fit, writersOf-with, spares-with, rooms-with}
 
-abbrev pub epochs : List RwTxn → List ℕ
+abbrev pub epochs : List Writer → List ℕ
 epochs ts = map (λ t. t .epoch) ts
 
 abbrev pub tickets : List RoTxn → List ℕ
@@ -43,10 +42,11 @@ pub record ClockFacts (c : Clock) : Type 0 where
   pub lse-low : c .lse ≤ c .lce
 
 -- of the transactions ts in use
-pub record WriterFacts (c : Clock) (ts : List RwTxn) : Type 0 where
+pub record WriterFacts (c : Clock) (ts : List Writer) : Type 0 where
   pub rising : rises (c .lce) (c .ec) (epochs ts) ≡ true
-  pub status : (t : RwTxn) → In t ts → statusOk ts t ≡ true
-  pub deps : (t : RwTxn) → In t ts → depsOk (c .lse) t ≡ true
+  pub status : (t : Writer) → In t ts → statusOk ts t ≡ true
+  pub deps : (t : Writer) → In t ts → depsOk (c .lse) t ≡ true
+  pub fits : All Fits ts
 
 -- of the read-only transactions ps in use, where next is the next ticket
 pub record ReaderFacts (lse lce next : ℕ) (ps : List RoTxn) : Type 0 where
@@ -61,52 +61,39 @@ pub record ManagerFacts (m : Manager) : Type 0 where
   pub writers-room : m .writers .count ≤ writersMax
   pub writers : WriterFacts (m .clock) (writersOf m)
   pub writers-unused : allOf unusedRw (drop (m .writers .count) (m .writers .at)) ≡ true
+  pub deps-room : allOf roomOk (recordsOf m) ≡ true
+  pub deps-unused : sparesZero (m .deps) (recordsOf m) ≡ true
   pub readers-room : m .readers .count ≤ readersMax
   pub readers : ReaderFacts (m .clock .lse) (m .clock .lce) (m .readers .next) (readersOf m)
   pub readers-unused : allOf unusedRo (drop (m .readers .count) (m .readers .at)) ≡ true
 
 -- ---- one transaction
 
-pub record DepsFacts (lse : ℕ) (t : RwTxn) : Type 0 where
-  pub room : t .deps .count ≤ depsMax
-  pub rising : rises lse (t .epoch) (depsOf t) ≡ true
-  pub unused : zeros (drop (t .deps .count) (t .deps .at)) ≡ true
-
-pub deps-facts : (lse : ℕ) (t : RwTxn) → depsOk lse t ≡ true → DepsFacts lse t
-unfolding depsOk
-deps-facts lse t h =
-    let p = and-three (leb (t .deps .count) depsMax) (rises lse (t .epoch) (depsOf t)) _ h in
-    record { room = leb-true (t .deps .count) depsMax (p .0); rising = p .1; unused = p .2 }
-
-pub deps-ok : (lse : ℕ) (t : RwTxn) → DepsFacts lse t → depsOk lse t ≡ true
-unfolding depsOk
-deps-ok lse t f = rw (le-leb (t .deps .count) depsMax (f .room), f .rising) (f .unused)
-
 -- an open transaction below epoch e
-abbrev pub opensBelow : ℕ → RwTxn → Bool
+abbrev pub opensBelow : ℕ → Writer → Bool
 opensBelow e u = isOpen u && ltb (u .epoch) e
 
 -- one that waits has no deps, and among ts an open one below it
-pub record Waits (ts : List RwTxn) (t : RwTxn) : Type 0 where
+pub record Waits (ts : List Writer) (t : Writer) : Type 0 where
   pub one : t .waiting ≡ 1
   pub behind : anyOf (opensBelow (t .epoch)) ts ≡ true
-  pub idle : t .deps .count ≡ 0
+  pub idle : length (t .deps) ≡ 0
 
-pub status-waits : (ts : List RwTxn) (t : RwTxn) → statusOk ts t ≡ true → isOpen t ≡ false → Waits ts t
+pub status-waits : (ts : List Writer) (t : Writer) → statusOk ts t ≡ true → isOpen t ≡ false → Waits ts t
 unfolding statusOk
 status-waits ts t h f = or-cases (isOpen t) _ h
   (λ k. no-proof (sym f ∙ k))
-  (λ n k. let p = and-three (eqb (t .waiting) 1) (anyOf (opensBelow (t .epoch)) ts) (eqb (t .deps .count) 0) k in
-    record { one = eqb-true (t .waiting) 1 (p .0); behind = p .1; idle = eqb-true (t .deps .count) 0 (p .2) })
+  (λ n k. let p = and-three (eqb (t .waiting) 1) (anyOf (opensBelow (t .epoch)) ts) (eqb (length (t .deps)) 0) k in
+    record { one = eqb-true (t .waiting) 1 (p .0); behind = p .1; idle = eqb-true (length (t .deps)) 0 (p .2) })
 
-pub status-open : (ts : List RwTxn) (t : RwTxn) → isOpen t ≡ true → statusOk ts t ≡ true
+pub status-open : (ts : List Writer) (t : Writer) → isOpen t ≡ true → statusOk ts t ≡ true
 unfolding statusOk
 status-open ts t h = rw h
 
-pub waits-status : (ts : List RwTxn) (t : RwTxn) → Waits ts t → statusOk ts t ≡ true
+pub waits-status : (ts : List Writer) (t : Writer) → Waits ts t → statusOk ts t ≡ true
 unfolding statusOk
 waits-status ts t w = or-right (isOpen t) _
-    (rw (eq-eqb (t .waiting) 1 (w .one), w .behind) (eq-eqb (t .deps .count) 0 (w .idle)))
+    (rw (eq-eqb (t .waiting) 1 (w .one), w .behind) (eq-eqb (length (t .deps)) 0 (w .idle)))
 
 -- ---- the test and the facts
 
@@ -132,8 +119,9 @@ unfolding managerOk writersOk readersOk
 manager-facts m h =
     let ts = writersOf m in let ps = readersOf m in let c = m .clock in
     let all = and-three (clockOk c) (writersOk m) (readersOk m) h in
-    let w = and-five (leb (m .writers .count) writersMax) (rises (c .lce) (c .ec) (epochs ts)) (allOf (statusOk ts) ts)
-          (allOf (depsOk (c .lse)) ts) (allOf unusedRw (drop (m .writers .count) (m .writers .at))) (all .1) in
+    let w = and-seven (leb (m .writers .count) writersMax) (rises (c .lce) (c .ec) (epochs ts)) (allOf (statusOk ts) ts)
+          (allOf roomOk (recordsOf m)) (allOf (depsOk (c .lse)) ts)
+          (allOf unusedRw (drop (m .writers .count) (m .writers .at))) (sparesZero (m .deps) (recordsOf m)) (all .1) in
     let n = m .readers .next in
     let r = and-six (leb (m .readers .count) readersMax) (leb 1 n) (leb n (suc lastTicket)) (rises 0 n (tickets ps))
           (allOf (inClock c) ps) (allOf unusedRo (drop (m .readers .count) (m .readers .at))) (all .2) in
@@ -141,8 +129,9 @@ manager-facts m h =
       clock = clock-facts c (all .0);
       writers-room = leb-true (m .writers .count) writersMax (w .0);
       writers = record {
-        rising = w .1; status = λ t i. all-in (statusOk ts) (w .2) i; deps = λ t i. all-in (depsOk (c .lse)) (w .3) i };
-      writers-unused = w .4;
+        rising = w .1; status = λ t i. all-in (statusOk ts) (w .2) i; deps = λ t i. all-in (depsOk (c .lse)) (w .4) i;
+        fits = views-fit (m .deps) (recordsOf m) };
+      writers-unused = w .5; deps-room = w .3; deps-unused = w .6;
       readers-room = leb-true (m .readers .count) readersMax (r .0);
       readers = record {
         next-low = leb-true 1 n (r .1); next-high = leb-true n (suc lastTicket) (r .2); rising = r .3;
@@ -154,8 +143,8 @@ pub manager-ok : (m : Manager) → ManagerFacts m → managerOk m ≡ true
 unfolding managerOk writersOk readersOk
 manager-ok m f = let w = f .writers in let r = f .readers in rw (
     clock-ok (m .clock) (f .clock), le-leb (m .writers .count) writersMax (f .writers-room), w .rising,
-    all-of (statusOk (writersOf m)) (writersOf m) (w .status), all-of (depsOk (m .clock .lse)) (writersOf m) (w .deps),
-    f .writers-unused,
+    all-of (statusOk (writersOf m)) (writersOf m) (w .status), f .deps-room,
+    all-of (depsOk (m .clock .lse)) (writersOf m) (w .deps), f .writers-unused, f .deps-unused,
     le-leb (m .readers .count) readersMax (f .readers-room), le-leb 1 (m .readers .next) (r .next-low),
     le-leb (m .readers .next) (suc lastTicket) (r .next-high), r .rising,
     all-of (inClock (m .clock)) (readersOf m)
@@ -164,45 +153,41 @@ manager-ok m f = let w = f .writers in let r = f .readers in rw (
 
 -- ---- lists read back as they were written
 
-pub writersOf-with : (ts : List RwTxn) (m : Manager) → writersOf (withWriters ts m) ≡ ts
-writersOf-with ts m = take-pad writersMax noRw ts
-
 pub readersOf-with : (ps : List RoTxn) (n : ℕ) (m : Manager) → readersOf (withReaders ps n m) ≡ ps
 readersOf-with ps n m = take-pad readersMax noRo ps
 
-pub depsOf-with : (e w : ℕ) (ds : List ℕ) → depsOf (record { epoch = e; waiting = w; deps = depsWith ds }) ≡ ds
-depsOf-with e w ds = take-pad depsMax 0 ds
-
-pub writers-with : (m : Manager) (c : Clock) (ts : List RwTxn) → ManagerFacts m → ClockFacts c → length ts ≤ writersMax
+pub writers-with : (m : Manager) (c : Clock) (ts : List Writer) → ManagerFacts m → ClockFacts c → length ts ≤ writersMax
     → WriterFacts c ts → ReaderFacts (c .lse) (c .lce) (m .readers .next) (readersOf m)
     → ManagerFacts (withClock c (withWriters ts m))
 writers-with m c ts f clock room writers readers = record {
   clock = clock; writers-room = room;
-  writers = rw (take-pad writersMax noRw ts) writers;
-  writers-unused = rw (drop-pad writersMax noRw ts) (allOf-replicate unusedRw (writersMax - length ts) noRw refl);
+  writers = rw (writersOf-with ts m (writers .fits)) writers;
+  writers-unused = rw (← length-map ts recordOf, drop-pad writersMax noRw (map recordOf ts))
+    (allOf-replicate unusedRw (writersMax - length (map recordOf ts)) noRw refl);
+  deps-room = rooms-with ts m (writers .fits); deps-unused = spares-with ts m (writers .fits);
   readers-room = f .readers-room; readers = readers; readers-unused = f .readers-unused }
 
 pub readers-with : (m : Manager) (ps : List RoTxn) (n : ℕ) → ManagerFacts m → length ps ≤ readersMax
     → ReaderFacts (m .clock .lse) (m .clock .lce) n ps → ManagerFacts (withReaders ps n m)
 readers-with m ps n f room readers = record {
   clock = f .clock; writers-room = f .writers-room; writers = f .writers; writers-unused = f .writers-unused;
-  readers-room = room;
+  deps-room = f .deps-room; deps-unused = f .deps-unused; readers-room = room;
   readers = rw (take-pad readersMax noRo ps) readers;
   readers-unused = rw (drop-pad readersMax noRo ps) (allOf-replicate unusedRo (readersMax - length ps) noRo refl) }
 
 -- ---- an open transaction
 
-pub opens-open : (i : ℕ) (t : RwTxn) → opens i t ≡ true → isOpen t ≡ true
+pub opens-open : (i : ℕ) (t : Writer) → opens i t ≡ true → isOpen t ≡ true
 opens-open i t h = and-left (isOpen t) (eqb (t .epoch) i) h
 
-pub opens-epoch : (i : ℕ) (t : RwTxn) → opens i t ≡ true → t .epoch ≡ i
+pub opens-epoch : (i : ℕ) (t : Writer) → opens i t ≡ true → t .epoch ≡ i
 opens-epoch i t h = eqb-true (t .epoch) i (and-right (isOpen t) (eqb (t .epoch) i) h)
 
-pub epoch-range : (lo hi : ℕ) (ts : List RwTxn) → rises lo hi (epochs ts) ≡ true → (t : RwTxn) → In t ts
+pub epoch-range : (lo hi : ℕ) (ts : List Writer) → rises lo hi (epochs ts) ≡ true → (t : Writer) → In t ts
     → (lo < t .epoch) × (t .epoch < hi)
-epoch-range lo hi ts h t i = rises-in lo hi (epochs ts) h (Memᴰ·map (λ (u : RwTxn). u .epoch) i)
+epoch-range lo hi ts h t i = rises-in lo hi (epochs ts) h (Memᴰ·map (λ (u : Writer). u .epoch) i)
 
-pub open-range : (c : Clock) (ts : List RwTxn) → WriterFacts c ts → (i : ℕ) → anyOf (opens i) ts ≡ true
+pub open-range : (c : Clock) (ts : List Writer) → WriterFacts c ts → (i : ℕ) → anyOf (opens i) ts ≡ true
     → (c .lce < i) × (i < c .ec)
 open-range c ts f i h = let w = any-in (opens i) ts h in let e = opens-epoch i (w .it) (w .passes) in
     let r = epoch-range (c .lce) (c .ec) ts (f .rising) (w .it) (w .at) in (omega arith, omega arith)

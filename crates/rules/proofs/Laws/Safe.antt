@@ -2,48 +2,47 @@
 -- specs/Safe.antt.
 -- In order: Free, the greatest target, the value 0, advanced-ok, what lies up to LSE.
 -- Assumes nothing.
-use mathlib.Core.Path.{_≡_, _∙_}
+use mathlib.Core.Path.{_≡_, refl, _∙_}
 use mathlib.Core.Bool.{Bool, true, false, _&&_, cond}
 use mathlib.Core.Logic.{_⊎_, inl, inr}
-use mathlib.Core.List.{List, [], _++_, map, List·Memᴰ as In, List·Memᴰ·not-nil, List·Memᴰ·append-cases}
+use mathlib.Core.List.{List, [], _∷_, _++_, map, List·Memᴰ as In, List·Memᴰ·not-nil, List·Memᴰ·append-cases}
 use mathlib.Core.List.{Memᴰ·append-left, Memᴰ·append-right, Memᴰ·map, Memᴰ·of-map}
 use Prim.Native.Nat.{ℕ, _-_, _≤_, _<_}
 use native.Mathlib.Omega.{arith}
 use lib.Dec.{ltb, leb}
+use lib.ListN.{length}
 use borrow.Author.Tests.{ltb-false, leb-false, le-ltb, le-leb, lt-leb}
-use Rattle.lists.specs.Lists.{gather, anyOf, firstOf, elem}
+use Rattle.lists.specs.Lists.{gather, anyOf, firstOf, elem, rises}
 use Rattle.lists.proofs.Laws.Bools.{split, or-false-left, or-false-right}
 use Rattle.lists.proofs.Laws.Filter.{none-in, none-of, first-in, elem-in}
 use Rattle.lists.proofs.Laws.Order.{rises-in, rises-from, foldr-min-base, foldr-min-in, foldr-min-above}
 use Rattle.lists.proofs.Laws.Order.{in-gather, gather-in}
-use Rattle.rules.specs.Manager.{noRw, noRo, isOpen, opens, hasOpen, depsOf, depsAt, hasTicket, epochAt}
+use Rattle.rules.specs.Manager.{Writer, noWriter, noRo, isOpen, opens, hasOpen, depsAt, hasTicket, epochAt}
 use Rattle.rules.specs.Manager.{writersOf}
 use Rattle.rules.specs.Manager.{readersOf, withClock, withLse}
 use Rattle.rules.specs.Safe.{blocked, greatestTarget, targetOf, advancedManager}
-use Rattle.rules.specs.WellFormed.{managerOk}
+use Rattle.rules.specs.WellFormed.{depsOk, managerOk}
 use Rattle.rules.specs.Calls.{isReader, seesOf, appliesOf}
-use Rattle.rules.specs.declared.RwTxn.{RwTxn}
 use Rattle.rules.specs.declared.RoTxn.{RoTxn}
 use Rattle.rules.specs.declared.Manager.{Manager}
 use Rattle.rules.specs.declared.Reader.{Reader}
 use Rattle.rules.specs.declared.Reader.the-variants.{Rw, Ro}
-use Rattle.rules.proofs.Laws.Manager.{ManagerFacts, DepsFacts, deps-facts, deps-ok, status-waits}
-use Rattle.rules.proofs.Laws.Manager.{manager-facts}
-use Rattle.rules.proofs.Laws.Manager.{manager-ok, opens-open, open-range}
+use Rattle.rules.proofs.Laws.Manager.{ManagerFacts, status-waits, manager-facts, manager-ok, opens-open}
+use Rattle.rules.proofs.Laws.Manager.{open-range}
 use Rattle.rules.proofs.Laws.Sees.{sees-earlier, applies-before}
 
 -- ---- what does not block n
 
 pub record Free (n : ℕ) (m : Manager) : Type 0 where
   pub readers : (p : RoTxn) → In p (readersOf m) → n ≤ p .epoch
-  pub deps : (t : RwTxn) → In t (writersOf m) → isOpen t ≡ true → (d : ℕ) → In d (depsOf t) → n < d
+  pub deps : (t : Writer) → In t (writersOf m) → isOpen t ≡ true → (d : ℕ) → In d (t .deps) → n < d
 
 -- a snapshot below n, a dep at or below n
 abbrev below : ℕ → RoTxn → Bool
 below n p = ltb (p .epoch) n
 
-abbrev blocks : ℕ → RwTxn → Bool
-blocks n x = isOpen x && anyOf (λ d. leb d n) (depsOf x)
+abbrev blocks : ℕ → Writer → Bool
+blocks n x = isOpen x && anyOf (λ d. leb d n) (x .deps)
 
 pub free-of-blocked : (n : ℕ) (m : Manager) → blocked n m ≡ false → Free n m
 unfolding blocked
@@ -58,14 +57,14 @@ unfolding blocked
 blocked-of-free n m f =
     rw (none-of (below n) (readersOf m) (λ p i. le-ltb (p .epoch) n (f .readers p i)))
     (none-of (blocks n) (writersOf m) (λ t i. split (isOpen t)
-      (λ o. rw o (none-of (λ (d : ℕ). leb d n) (depsOf t) (λ d k. lt-leb d n (f .deps t i o d k))))
+      (λ o. rw o (none-of (λ (d : ℕ). leb d n) (t .deps) (λ d k. lt-leb d n (f .deps t i o d k))))
       (λ c. rw c)))
 
 -- ---- the greatest target
 
 -- just below each dep of an open transaction
-abbrev belowDeps : RwTxn → List ℕ
-belowDeps x = cond (isOpen x) (map (λ d. d - 1) (depsOf x)) []
+abbrev belowDeps : Writer → List ℕ
+belowDeps x = cond (isOpen x) (map (λ d. d - 1) (x .deps)) []
 
 -- what bounds the target
 abbrev bounds : Manager → List ℕ
@@ -74,9 +73,9 @@ bounds m = map (λ p. p .epoch) (readersOf m) ++ gather belowDeps (writersOf m)
 bounds-above : (n : ℕ) (m : Manager) → Free n m → (x : ℕ) → In x (bounds m) → n ≤ x
 bounds-above n m f x i = go (List·Memᴰ·append-cases (map (λ (p : RoTxn). p .epoch) (readersOf m)) i)
   where
-    dep : (t : RwTxn) → In t (writersOf m) → In x (belowDeps t) → n ≤ x
+    dep : (t : Writer) → In t (writersOf m) → In x (belowDeps t) → n ≤ x
     dep t k j = split (isOpen t)
-      (λ o. let w = Memᴰ·of-map (λ (d : ℕ). d - 1) (depsOf t) (rw o at j) in
+      (λ o. let w = Memᴰ·of-map (λ (d : ℕ). d - 1) (t .deps) (rw o at j) in
         let a = f .deps t k o (w .0) (w .1) in let e = w .2 in omega arith)
       (λ c. absurd (List·Memᴰ·not-nil (rw c at j)))
     go : In x (map (λ (p : RoTxn). p .epoch) (readersOf m)) ⊎ In x (gather belowDeps (writersOf m)) → n ≤ x
@@ -92,10 +91,10 @@ greatest-above n m h f = foldr-min-above (m .clock .lce) n (bounds m) h (bounds-
 module _ (m : Manager) (f : ManagerFacts m) where
   -- every dep is above LSE
   pub lse-free : Free (m .clock .lse) m
+  unfolding depsOk
   lse-free = record {
     readers = f .readers .low;
-    deps = λ t i o d k. let g = deps-facts (m .clock .lse) t (f .writers .deps t i) in
-      rises-in (m .clock .lse) (t .epoch) (depsOf t) (g .rising) k .0 }
+    deps = λ t i o d k. rises-in (m .clock .lse) (t .epoch) (t .deps) (f .writers .deps t i) k .0 }
 
   pub greatest-low : m .clock .lse ≤ greatestTarget m
   greatest-low = greatest-above (m .clock .lse) m (f .clock .lse-low) lse-free
@@ -135,20 +134,23 @@ target-zero m ok = target-greatest m ok
 
 pub advanced-facts : (n : ℕ) (m : Manager) → ManagerFacts m → n ≤ m .clock .lce → Free n m
     → ManagerFacts (withClock (withLse n (m .clock)) m)
+unfolding depsOk
 advanced-facts n m f high free = let k = f .clock in let r = f .readers in let w = f .writers in record {
   clock = record { ec-low = k .ec-low; ec-high = k .ec-high; lce-low = k .lce-low; lse-low = high };
   writers-room = f .writers-room; writers-unused = f .writers-unused;
-  writers = record { rising = w .rising; status = w .status; deps = λ t i. deps-ok n t (deps t i) };
+  deps-room = f .deps-room; deps-unused = f .deps-unused;
+  writers = record { rising = w .rising; status = w .status; deps = deps; fits = w .fits };
   readers-room = f .readers-room; readers-unused = f .readers-unused;
   readers = record {
     next-low = r .next-low; next-high = r .next-high; rising = r .rising; low = free .readers; high = r .high } }
   where
-    deps : (t : RwTxn) → In t (writersOf m) → DepsFacts n t
-    deps t i = let g = deps-facts (m .clock .lse) t (f .writers .deps t i) in record {
-      room = g .room; unused = g .unused;
-      rising = split (isOpen t)
-        (λ o. rises-from (m .clock .lse) n (t .epoch) (depsOf t) (λ d k. free .deps t i o d k) (g .rising))
-        (λ c. rw (status-waits (writersOf m) t (f .writers .status t i) c .idle)) }
+    none : (e : ℕ) (ds : List ℕ) → length ds ≡ 0 → rises n e ds ≡ true
+    none e [] h = refl
+    none e (d ∷ ds) h = absurd (omega arith)
+    deps : (t : Writer) → In t (writersOf m) → depsOk n t ≡ true
+    deps t i = split (isOpen t)
+      (λ o. rises-from (m .clock .lse) n (t .epoch) (t .deps) (λ d k. free .deps t i o d k) (f .writers .deps t i))
+      (λ c. none (t .epoch) (t .deps) (status-waits (writersOf m) t (f .writers .status t i) c .idle))
 
 pub advanced-ok : (t : ℕ) (m : Manager) → managerOk m ≡ true → targetOf t m ≤ m .clock .lce
     → blocked (targetOf t m) m ≡ false → managerOk (advancedManager t m) ≡ true
@@ -162,7 +164,7 @@ advanced-ok t m ok high b = let n = targetOf t m in
 module _ (m : Manager) (ok : managerOk m ≡ true) where
   low-dep : (i : ℕ) → hasOpen i m ≡ true → (j : ℕ) → j ≤ m .clock .lse → elem j (depsAt i m) ≡ false
   low-dep i o j h = split (elem j (depsAt i m))
-    (λ t. let x = firstOf (opens i) noRw (writersOf m) in let w = first-in (opens i) noRw (writersOf m) o in
+    (λ t. let x = firstOf (opens i) noWriter (writersOf m) in let w = first-in (opens i) noWriter (writersOf m) o in
       let b = lse-free m (manager-facts m ok) .deps x (w .0) (opens-open i x (w .1)) j (elem-in j (depsAt i m) t) in
       absurd (omega arith))
     (λ f. f)

@@ -197,7 +197,7 @@ unfolding rolledBack
 words-rolledBack i ss = let q : Span → Bool = λ s. not (eqb (s .epoch) i) in
     rw (words-joined (keepIf q ss)) (words-keepIf q ss)
 
-length-rolledBack : (i : ℕ) (ss : List Span) → length (rolledBack i ss) ≤ length ss
+pub length-rolledBack : (i : ℕ) (ss : List Span) → length (rolledBack i ss) ≤ length ss
 unfolding rolledBack
 length-rolledBack i ss = let q : Span → Bool = λ s. not (eqb (s .epoch) i) in
     let a = length-joined (keepIf q ss) in let b = length-keepIf q ss in omega arith

@@ -19,7 +19,7 @@ use Rattle.lists.proofs.Laws.Filter.{any-in, any-of, none-in, none-of, in-keepI
 use Rattle.lists.proofs.Laws.Filter.{in-elem, elem-in}
 use Rattle.lists.proofs.Laws.Order.{foldr-max-base, foldr-max-in, foldr-max-below}
 use Rattle.lists.proofs.Laws.Tests.{no-proof, and-mask}
-use Rattle.rules.specs.Manager.{noRw, noRo, isOpen, opens, hasOpen, depsOf, depsAt, hasTicket}
+use Rattle.rules.specs.Manager.{Writer, noWriter, noRo, isOpen, opens, hasOpen, depsAt, hasTicket}
 use Rattle.rules.specs.Manager.{writersOf}
 use Rattle.rules.specs.Manager.{readersOf}
 use Rattle.rules.specs.Sees.{seesRw, appliesRw}
@@ -30,7 +30,6 @@ use Rattle.rules.specs.Ledger.{writerShows, readerShows}
 use Rattle.rules.specs.Promises.{ledgerSees, ledgerApplies}
 use Rattle.rules.specs.Claim.{isOpenIn, shownBy}
 use Rattle.rules.specs.WellFormed.{managerOk}
-use Rattle.rules.specs.declared.RwTxn.{RwTxn}
 use Rattle.rules.specs.declared.RoTxn.{RoTxn}
 use Rattle.rules.specs.declared.Manager.{Manager}
 use Rattle.rules.specs.declared.Reader.{Reader}
@@ -56,15 +55,15 @@ shownBy-tests (Ro t) p g = refl
 
 -- ---- Tracks
 
-abbrev pub depsIn : ℕ → List RwTxn → List ℕ
-depsIn i ts = depsOf (firstOf (opens i) noRw ts)
+abbrev pub depsIn : ℕ → List Writer → List ℕ
+depsIn i ts = firstOf (opens i) noWriter ts .deps
 
 abbrev pub epochIn : ℕ → List RoTxn → ℕ
 epochIn t ps = firstOf (hasTicket t) noRo ps .epoch
 
 -- the read-write transactions ts, and the ledger's committed epochs cs and open transactions ws, made new at
 -- start
-pub record WritersTrack (lce ec : ℕ) (ts : List RwTxn) (start : ℕ) (cs : List ℕ) (ws : List Snapshot) : Type 0 where
+pub record WritersTrack (lce ec : ℕ) (ts : List Writer) (start : ℕ) (cs : List ℕ) (ws : List Snapshot) : Type 0 where
   pub same : (i : ℕ) → anyOf (named i) ws ≡ anyOf (opens i) ts
   pub older : (i j : ℕ) → anyOf (opens i) ts ≡ true → anyOf (opens j) ts ≡ true → j < i → elem j (depsIn i ts) ≡ true
   pub marks : (i : ℕ) → anyOf (opens i) ts ≡ true → (j : ℕ)
@@ -72,7 +71,7 @@ pub record WritersTrack (lce ec : ℕ) (ts : List RwTxn) (start : ℕ) (cs : Lis
   pub done-below : (c : ℕ) → elem c cs ≡ true → c < ec
   pub done-shut : (c : ℕ) → elem c cs ≡ true → anyOf (opens c) ts ≡ false
   pub done-known : (c : ℕ) → elem c cs ≡ true → known lce ts c ≡ true
-  pub waits-done : (t : RwTxn) → In t ts → isOpen t ≡ false → elem (t .epoch) cs ≡ true
+  pub waits-done : (t : Writer) → In t ts → isOpen t ≡ false → elem (t .epoch) cs ≡ true
   pub lce-done : (lce ≡ start - 1) ⊎ (elem lce cs ≡ true)
   pub lce-base : start - 1 ≤ lce
 
@@ -121,14 +120,14 @@ module _ {m : Manager} {g : Ledger} (T : Tracks m g) where
   latest-below : (c : ℕ) → elem c (g .committed) ≡ true → clear c ≡ true → c ≤ m .clock .lce
   latest-below c d n = or-cases (leb c (m .clock .lce)) (elem c (epochs (writersOf m))) (T .writers .done-known c d)
     (λ t. leb-true c (m .clock .lce) t)
-    (λ h t. let w = Memᴰ·of-map (λ (x : RwTxn). x .epoch) (writersOf m) (elem-in c (epochs (writersOf m)) t) in
+    (λ h t. let w = Memᴰ·of-map (λ (x : Writer). x .epoch) (writersOf m) (elem-in c (epochs (writersOf m)) t) in
       absurd (waits (w .0) (w .1) (w .2)))
     where
-      shut : (t : RwTxn) → In t (writersOf m) → t .epoch ≡ c → isOpen t ≡ false
+      shut : (t : Writer) → In t (writersOf m) → t .epoch ≡ c → isOpen t ≡ false
       shut t i e = split (isOpen t)
         (λ o. no-proof (sym (T .writers .done-shut c d) ∙ any-of (opens c) i (rw o (eq-eqb (t .epoch) c e))))
         (λ k. k)
-      waits : (t : RwTxn) → In t (writersOf m) → t .epoch ≡ c → ⊥
+      waits : (t : Writer) → In t (writersOf m) → t .epoch ≡ c → ⊥
       waits t i e =
           let s = status-waits (writersOf m) t (manager-facts m (T .ok) .writers .status t i) (shut t i e) in
           let u = any-in (opensBelow (t .epoch)) (writersOf m) (s .behind) in let k = u .it .epoch in

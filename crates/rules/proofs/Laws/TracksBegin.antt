@@ -3,7 +3,7 @@
 -- In order: making new, which epochs are alive, the transactions with the new one, its snapshot, begin.
 -- Assumes nothing.
 use mathlib.Core.Path.{_≡_, refl, sym, ap, _∙_}
-use mathlib.Core.Bool.{Bool, true, false, not, _&&_, _||_}
+use mathlib.Core.Bool.{Bool, true, false, not, _&&_, _||_, cond}
 use mathlib.Core.Logic.{_⊎_, inl, inr}
 use mathlib.Core.List.{List, [], _∷_, _++_, map-append, List·Memᴰ as In, List·Memᴰ·not-nil}
 use mathlib.Core.List.{List·Memᴰ·append-cases}
@@ -17,14 +17,14 @@ use Rattle.lists.proofs.Laws.Bools.{split, and-left, and-false, or-right, or-ca
 use Rattle.lists.proofs.Laws.Filter.{anyOf-append, firstOf-old, firstOf-new, elem-keepIf}
 use Rattle.lists.proofs.Laws.Tests.{or-comm, and-mask, no-proof}
 use Rattle.rules.specs.Limits.{lastEpoch, writersMax}
-use Rattle.rules.specs.Manager.{noRw, isOpen, opens, writersOf, openEpochs}
+use Rattle.rules.specs.Manager.{Writer, noWriter, isOpen, opens, writersOf, openEpochs}
 use Rattle.rules.specs.Begin.{createdManager, begunTxn, begunManager}
 use Rattle.rules.specs.Sees.{seesRw}
 use Rattle.rules.specs.Ledger.{Snapshot, Ledger, newLedger, named, withBegun}
-use Rattle.rules.specs.declared.RwTxn.{RwTxn}
 use Rattle.rules.specs.declared.Manager.{Manager}
-use Rattle.rules.proofs.Laws.Manager.{epochs, manager-facts, writersOf-with, depsOf-with}
-use Rattle.rules.proofs.Laws.Begin.{created-ok, begun-ok}
+use Rattle.rules.proofs.Laws.Manager.{epochs, manager-facts}
+use Rattle.rules.proofs.Laws.Views.{writersOf-with, writers-length}
+use Rattle.rules.proofs.Laws.Begin.{created-ok, begun-writers, begun-ok}
 use Rattle.rules.proofs.Laws.Epochs.{known-more, hasOpen-range}
 use Rattle.rules.proofs.Laws.Tracks.{alive, depsIn, WritersTrack, Tracks, marksOf-first, marksOf-rest}
 use Rattle.rules.proofs.Laws.Tracks.{readers-alive}
@@ -57,7 +57,7 @@ alive-other i g j ne = rw (alive-begin i g j, ne-eqb j i ne) (sym (or-false (ali
 
 -- ---- the transactions with the new one
 
-pub elem-openEpochs : (j : ℕ) (ts : List RwTxn) → elem j (openEpochs ts) ≡ anyOf (opens j) ts
+pub elem-openEpochs : (j : ℕ) (ts : List Writer) → elem j (openEpochs ts) ≡ anyOf (opens j) ts
 elem-openEpochs j [] = refl
 elem-openEpochs j (t ∷ ts) = let ih = elem-openEpochs j ts in split (isOpen t)
   (λ o. rw (o, eqb-comm j (t .epoch), ih))
@@ -69,25 +69,25 @@ sees-low i ds j h = or-cases (eqb j i) (ltb j i && not (elem j ds)) h
   (λ e. let q = eqb-true j i e in omega arith)
   (λ n l. let q = ltb-true j i (and-left (ltb j i) (not (elem j ds)) l) in omega arith)
 
-module _ (e : ℕ) (ts : List RwTxn) where
-  abbrev more : List RwTxn
+module _ (e : ℕ) (ts : List Writer) where
+  abbrev more : List Writer
   more = ts ++ (begunTxn e ts ∷ [])
 
   opens-more : (j : ℕ) → anyOf (opens j) more ≡ anyOf (opens j) ts || eqb e j
   opens-more j = anyOf-append (opens j) ts (begunTxn e ts ∷ []) ∙ ap (λ b. anyOf (opens j) ts || b) (or-false (eqb e j))
 
   deps-old : (i : ℕ) → anyOf (opens i) ts ≡ true → depsIn i more ≡ depsIn i ts
-  deps-old i o = rw (firstOf-old (opens i) noRw ts (begunTxn e ts ∷ []) o)
+  deps-old i o = ap (λ (w : Writer). w .deps) (firstOf-old (opens i) noWriter ts (begunTxn e ts ∷ []) o)
 
   deps-new : anyOf (opens e) ts ≡ false → depsIn e more ≡ openEpochs ts
-  deps-new n = rw (firstOf-new (opens e) noRw ts (begunTxn e ts ∷ []) n, eq-eqb e e refl)
-      (depsOf-with e 0 (openEpochs ts))
+  deps-new n = ap (λ (w : Writer). w .deps) (firstOf-new (opens e) noWriter ts (begunTxn e ts ∷ []) n
+    ∙ ap (λ b. cond b (begunTxn e ts) noWriter) (eq-eqb e e refl))
 
 module _ (m : Manager) (g : Ledger) (T : Tracks m g) where
   abbrev e : ℕ
   e = m .clock .ec
 
-  abbrev ts : List RwTxn
+  abbrev ts : List Writer
   ts = writersOf m
 
   abbrev begun : Snapshot
@@ -136,15 +136,15 @@ module _ (m : Manager) (g : Ledger) (T : Tracks m g) where
     done-below = λ c d. let b = R .done-below c d in omega arith;
     done-shut = λ c d. let b = R .done-below c d in
       rw (opens-more e ts c, R .done-shut c d) (ne-eqb e c (λ q. omega arith));
-    done-known = λ c d. rw (map-append (λ (t : RwTxn). t .epoch) ts (begunTxn e ts ∷ []))
+    done-known = λ c d. rw (map-append (λ (t : Writer). t .epoch) ts (begunTxn e ts ∷ []))
       (known-more (m .clock .lce) (epochs ts) (e ∷ []) c (R .done-known c d));
     waits-done = λ t i n. waits t n (List·Memᴰ·append-cases ts i);
     lce-done = R .lce-done; lce-base = R .lce-base }
     where
-      waits : (t : RwTxn) → isOpen t ≡ false → In t ts ⊎ In t (begunTxn e ts ∷ [])
+      waits : (t : Writer) → isOpen t ≡ false → In t ts ⊎ In t (begunTxn e ts ∷ [])
           → elem (t .epoch) (g .committed) ≡ true
       waits t n (inl i) = T .writers .waits-done t i n
-      waits t n (inr i) = no-proof (sym n ∙ ap (λ (x : RwTxn). isOpen x) (List·Memᴰ·eq-of-singleton i))
+      waits t n (inr i) = no-proof (sym n ∙ ap (λ (x : Writer). isOpen x) (List·Memᴰ·eq-of-singleton i))
 
 -- ---- begin
 
@@ -153,6 +153,8 @@ pub tracks-begin : {m : Manager} {g : Ledger} → Tracks m g → (m .clock .ec �
 unfolding begunManager
 tracks-begin {m} {g} T last room = let f = manager-facts m (T .ok) in let k = f .clock in record {
   ok = begun-ok m (T .ok) last room;
-  writers = rw (writersOf-with (more (m .clock .ec) (writersOf m)) m) (begun-track m g T);
+  writers = rw (writersOf-with (more (m .clock .ec) (writersOf m)) m
+    (begun-writers (m .clock) (writersOf m) (f .writers) k (omega (arith, writers-length m)) .fits))
+    (begun-track m g T);
   readers = readers-alive (m .clock .lce) _ (alive g) (alive (withBegun (m .clock .ec) g)) (g .readers)
     (f .readers .high) (λ j l. alive-other (m .clock .ec) g j (λ q. omega arith)) (T .readers) }

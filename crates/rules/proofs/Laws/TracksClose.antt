@@ -16,16 +16,16 @@ use Rattle.lists.proofs.Laws.Bools.{or-cases}
 use Rattle.lists.proofs.Laws.Filter.{anyOf-same, anyOf-map, anyOf-keepIf, keepIf-in, firstOf-keepIf}
 use Rattle.lists.proofs.Laws.Filter.{firstOf-map, anyOf-without, firstOf-without}
 use Rattle.lists.proofs.Laws.Tests.{and-mask, no-proof}
-use Rattle.rules.specs.Manager.{noRw, isOpen, opens, hasOpen, writersOf, readersOf}
+use Rattle.rules.specs.Manager.{Writer, noWriter, isOpen, opens, hasOpen, writersOf, readersOf}
 use Rattle.rules.specs.Close.{committedTxns, droppedTxns, settledLce, settled, committedManager}
 use Rattle.rules.specs.Close.{rolledBackManager}
 use Rattle.rules.specs.Sees.{seesRw}
 use Rattle.rules.specs.Ledger.{Snapshot, Ledger, noSnapshot, named, without, marksOf, withOpenRw}
 use Rattle.rules.specs.WellFormed.{managerOk}
-use Rattle.rules.specs.declared.RwTxn.{RwTxn}
 use Rattle.rules.specs.declared.Manager.{Manager}
-use Rattle.rules.proofs.Laws.Manager.{manager-facts, writersOf-with, opens-open, opens-epoch}
-use Rattle.rules.proofs.Laws.Close.{Unsettled, Moved, kept, committedTxn, settled-rises, settled-is}
+use Rattle.rules.proofs.Laws.Manager.{manager-facts, opens-open, opens-epoch}
+use Rattle.rules.proofs.Laws.Views.{writersOf-with}
+use Rattle.rules.proofs.Laws.Close.{Unsettled, Moved, kept, kept-fit, committedTxn, settled-rises, settled-is}
 use Rattle.rules.proofs.Laws.Close.{epochs-committed, committed-unsettled, dropped-unsettled}
 use Rattle.rules.proofs.Laws.Close.{committed-ok}
 use Rattle.rules.proofs.Laws.Close.{rolledBack-ok}
@@ -34,65 +34,66 @@ use Rattle.rules.proofs.Laws.Tracks.{aliveIn, alive, depsIn, WritersTra
 
 -- ---- who stays open
 
-pub opens-keyed : (i j : ℕ) (t : RwTxn) → opens j t ≡ true → opens i t ≡ eqb j i
+pub opens-keyed : (i j : ℕ) (t : Writer) → opens j t ≡ true → opens i t ≡ eqb j i
 opens-keyed i j t h = rw (opens-open j t h, opens-epoch j t h)
 
 pub named-keyed : (i j : ℕ) (s : Snapshot) → named j s ≡ true → named i s ≡ eqb j i
 named-keyed i j s h = rw (eqb-true (s .name) j h)
 
-opens-dropped : (i j : ℕ) (ts : List RwTxn) → anyOf (opens j) (droppedTxns i ts) ≡ anyOf (opens j) ts && not (eqb j i)
+opens-dropped : (i j : ℕ) (ts : List Writer) → anyOf (opens j) (droppedTxns i ts) ≡ anyOf (opens j) ts && not (eqb j i)
 unfolding droppedTxns
 opens-dropped i j ts = anyOf-without opens opens-keyed i j ts
 
-first-dropped : (i j : ℕ) (ts : List RwTxn) → (j ≡ i → ⊥)
-    → firstOf (opens j) noRw (droppedTxns i ts) ≡ firstOf (opens j) noRw ts
+first-dropped : (i j : ℕ) (ts : List Writer) → (j ≡ i → ⊥)
+    → firstOf (opens j) noWriter (droppedTxns i ts) ≡ firstOf (opens j) noWriter ts
 unfolding droppedTxns
-first-dropped i j ts ne = firstOf-without opens opens-keyed noRw i j ts ne
+first-dropped i j ts ne = firstOf-without opens opens-keyed noWriter i j ts ne
 
 -- a committed transaction is as little open as a dropped one
-opens-committedTxn : (i j : ℕ) (t : RwTxn) → opens j (committedTxn i t) ≡ opens j t && not (opens i t)
+opens-committedTxn : (i j : ℕ) (t : Writer) → opens j (committedTxn i t) ≡ opens j t && not (opens i t)
 opens-committedTxn i j t = split (opens i t)
   (λ o. rw (o, and-false (opens j t)))
   (λ n. rw (n, and-true (opens j t)))
 
-opens-committed : (i j : ℕ) (ts : List RwTxn)
+opens-committed : (i j : ℕ) (ts : List Writer)
     → anyOf (opens j) (committedTxns i ts) ≡ anyOf (opens j) ts && not (eqb j i)
 unfolding committedTxns
 opens-committed i j ts = anyOf-map (opens j) (committedTxn i) ts
     ∙ (anyOf-same _ (λ t. opens j t && not (opens i t)) ts (λ t k. opens-committedTxn i j t)
     ∙ (sym (anyOf-keepIf (opens j) (λ t. not (opens i t)) ts) ∙ anyOf-without opens opens-keyed i j ts))
 
-first-committed : (i j : ℕ) (ts : List RwTxn) → (j ≡ i → ⊥)
-    → firstOf (opens j) noRw (committedTxns i ts) ≡ firstOf (opens j) noRw ts
+first-committed : (i j : ℕ) (ts : List Writer) → (j ≡ i → ⊥)
+    → firstOf (opens j) noWriter (committedTxns i ts) ≡ firstOf (opens j) noWriter ts
 unfolding committedTxns
-first-committed i j ts ne = firstOf-map (opens j) noRw (committedTxn i) ts
+first-committed i j ts ne = firstOf-map (opens j) noWriter (committedTxn i) ts
     (λ t. opens-committedTxn i j t ∙ split (opens j t) (λ o. rw (o, shut t o)) (λ n. rw n))
     (λ t o. rw (shut t o))
   where
-    shut : (t : RwTxn) → opens j t ≡ true → opens i t ≡ false
+    shut : (t : Writer) → opens j t ≡ true → opens i t ≡ false
     shut t o = opens-keyed i j t o ∙ ne-eqb j i ne
 
 -- as LCE settles, only ones that wait go
-opens-kept : (lce j : ℕ) (ts : List RwTxn) → anyOf (opens j) (keepIf (kept lce) ts) ≡ anyOf (opens j) ts
+opens-kept : (lce j : ℕ) (ts : List Writer) → anyOf (opens j) (keepIf (kept lce) ts) ≡ anyOf (opens j) ts
 opens-kept lce j ts = anyOf-keepIf (opens j) (kept lce) ts ∙ anyOf-same _ (opens j) ts (λ t i. split (isOpen t)
   (λ o. rw (o, and-true (eqb (t .epoch) j)))
   (λ n. rw n))
 
-first-kept : (lce j : ℕ) (ts : List RwTxn) → firstOf (opens j) noRw (keepIf (kept lce) ts) ≡ firstOf (opens j) noRw ts
-first-kept lce j ts = firstOf-keepIf (opens j) noRw (kept lce) ts (λ t o. or-left (isOpen t) _ (opens-open j t o))
+first-kept : (lce j : ℕ) (ts : List Writer)
+    → firstOf (opens j) noWriter (keepIf (kept lce) ts) ≡ firstOf (opens j) noWriter ts
+first-kept lce j ts = firstOf-keepIf (opens j) noWriter (kept lce) ts (λ t o. or-left (isOpen t) _ (opens-open j t o))
 
 -- ---- Closing
 
 -- transaction i, open in m, is closed: ts are the transactions before LCE is settled, cs the committed epochs
-pub record Closing (m : Manager) (g : Ledger) (i : ℕ) (ts : List RwTxn) (cs : List ℕ) : Type 0 where
+pub record Closing (m : Manager) (g : Ledger) (i : ℕ) (ts : List Writer) (cs : List ℕ) : Type 0 where
   pub opens-left : (j : ℕ) → anyOf (opens j) ts ≡ hasOpen j m && not (eqb j i)
-  pub first-left : (j : ℕ) → (j ≡ i → ⊥) → firstOf (opens j) noRw ts ≡ firstOf (opens j) noRw (writersOf m)
+  pub first-left : (j : ℕ) → (j ≡ i → ⊥) → firstOf (opens j) noWriter ts ≡ firstOf (opens j) noWriter (writersOf m)
   pub unsettled : Unsettled (m .clock) ts
   pub alive-left : (j : ℕ) → (j ≡ i → ⊥) → alive g j ≡ aliveIn cs (without i (g .writers)) j
   pub below : (c : ℕ) → elem c cs ≡ true → c < m .clock .ec
   pub shut : (c : ℕ) → elem c cs ≡ true → hasOpen c m && not (eqb c i) ≡ false
   pub has : (c : ℕ) → elem c cs ≡ true → known (m .clock .lce) ts c ≡ true
-  pub waits-done : (t : RwTxn) → In t ts → isOpen t ≡ false → elem (t .epoch) cs ≡ true
+  pub waits-done : (t : Writer) → In t ts → isOpen t ≡ false → elem (t .epoch) cs ≡ true
   pub grows : (c : ℕ) → elem c (g .committed) ≡ true → elem c cs ≡ true
 
 module _ {m : Manager} {g : Ledger} (T : Tracks m g) (i : ℕ) (o : hasOpen i m ≡ true) where
@@ -103,11 +104,11 @@ module _ {m : Manager} {g : Ledger} (T : Tracks m g) (i : ℕ) (o : hasOpen i m 
     (λ t. rw (t, T .writers .older j i u o (ltb-true i j t)))
     (λ f. rw f))
 
-  module _ (ts : List RwTxn) (cs : List ℕ) (C : Closing m g i ts cs) where
+  module _ (ts : List Writer) (cs : List ℕ) (C : Closing m g i ts cs) where
     abbrev to : ℕ
     to = settledLce (m .clock .lce) ts
 
-    abbrev rest : List RwTxn
+    abbrev rest : List Writer
     rest = keepIf (kept (settledLce (m .clock .lce) ts)) ts
 
     left : (j : ℕ) → anyOf (opens j) rest ≡ true → (hasOpen j m ≡ true) × (j ≡ i → ⊥)
@@ -116,7 +117,7 @@ module _ {m : Manager} {g : Ledger} (T : Tracks m g) (i : ℕ) (o : hasOpen i m 
           eqb-false j i (not-true (eqb j i) (and-right (hasOpen j m) (not (eqb j i)) h)))
 
     deps-left : (j : ℕ) → anyOf (opens j) rest ≡ true → depsIn j rest ≡ depsIn j (writersOf m)
-    deps-left j e = rw (first-kept to j ts, C .first-left j (left j e .1))
+    deps-left j e = ap (λ (w : Writer). w .deps) (first-kept to j ts ∙ C .first-left j (left j e .1))
 
     marks-left : (j : ℕ) → anyOf (opens j) rest ≡ true → marksOf j (without i (g .writers)) ≡ marksOf j (g .writers)
     marks-left j e =
@@ -195,18 +196,19 @@ module _ {m : Manager} {g : Ledger} (T : Tracks m g) (i : ℕ) (o : hasOpen i m 
     below = R .done-below;
     shut = λ c d. rw (R .done-shut c d);
     has = λ c d. dropped-known i (m .clock .lce) ts c (λ q. no-proof (sym not-done ∙ rw q at d)) (R .done-known c d);
-    waits-done = λ t k n. R .waits-done t (keepIf-in (λ (u : RwTxn). not (opens i u)) ts k .0) n;
+    waits-done = λ t k n. R .waits-done t (keepIf-in (λ (u : Writer). not (opens i u)) ts k .0) n;
     grows = λ c d. d }
 
 -- ---- the calls
 
 closing-tracks : {m : Manager} {g : Ledger} → Tracks m g → (i : ℕ) → hasOpen i m ≡ true
-    → (ts : List RwTxn) (cs : List ℕ) → Closing m g i ts cs → managerOk (settled ts m) ≡ true
+    → (ts : List Writer) (cs : List ℕ) → Closing m g i ts cs → managerOk (settled ts m) ≡ true
     → Tracks (settled ts m) (withOpenRw cs (without i (g .writers)) g)
 unfolding settled
 closing-tracks {m} {g} T i o ts cs C ok = let w = hasOpen-range m (T .ok) i o in record {
   ok = ok;
-  writers = rw (writersOf-with (keepIf (kept (settledLce (m .clock .lce) ts)) ts) m) (closing-track T i o ts cs C);
+  writers = rw (writersOf-with (keepIf (kept (settledLce (m .clock .lce) ts)) ts) m
+    (kept-fit (kept (settledLce (m .clock .lce) ts)) ts (C .unsettled .fits))) (closing-track T i o ts cs C);
   readers = readers-alive (m .clock .lce) (readersOf m) (alive g) (aliveIn cs (without i (g .writers))) (g .readers)
     (manager-facts m (T .ok) .readers .high) (λ j l. C .alive-left j (λ q. omega arith)) (T .readers) }
 

@@ -3,9 +3,10 @@
 -- Assumes nothing.
 use mathlib.Core.Path.{_≡_, sym, _∙_, ap}
 use mathlib.Core.List.{List, [], _∷_, _++_}
-use Prim.Native.Nat.{ℕ, zero, suc, _+_, _-_, _/_, _%_, _^_, _≤_, _<_}
+use Prim.Native.Nat.{ℕ, zero, suc, _+_, _-_, _*_, _/_, _%_, _^_, _≤_, _<_}
 use native.Mathlib.Omega.{arith}
-use native.Mathlib.Nat.{mod-eq-of-lt}
+use native.Mathlib.Nat.{mod-eq-of-lt, pow-le-pow-right, pow-suc}
+use native.Mathlib.Numerals.{add-one}
 use lib.ListN.{length, drop, getD, set, length-append}
 use lib.Dec.{ltb, leb}
 use lib.Seq.{drop-cons}
@@ -57,6 +58,24 @@ decimal-few n = few-digits 19 n
 pub length-large : (n : ℕ) → 10 ≤ n → n < 2 ^ 64 → length (decimal n) ≡ suc (length (decimal (n / 10)))
 length-large n l h = ap length (decimal-large n l h)
     ∙ (length-append (decimal (n / 10)) ((48 + n % 10) ∷ []) ∙ omega arith)
+
+-- from a power of 10 up to the next
+length-power : (k n : ℕ) → 10 ^ k ≤ n → n < 10 ^ suc k → n < 2 ^ 64 → length (decimal n) ≡ suc k
+length-power zero n l h b = ap length (decimal-small n (omega arith))
+length-power (suc k) n l h b =
+    let p : 1 ≤ 10 ^ k = pow-le-pow-right (omega arith) {i = 0} {j = k} (omega arith) in
+    length-large n (omega arith) b ∙ ap suc (length-power k (n / 10) (omega arith) (omega arith) (omega arith))
+
+pub power-next : (m : ℕ) → 10 ^ m * 10 ≡ 10 ^ (m + 1)
+power-next m = rw add-one (sym (pow-suc 10 m))
+
+-- of m digits are those below 10 ^ m and, where m is not 1, not below the power before it
+pub length-between : (m n : ℕ) → 1 ≤ m → (2 ≤ m → 10 ^ (m - 1) ≤ n) → n < 10 ^ m → n < 2 ^ 64
+    → m ≡ length (decimal n)
+length-between zero n o l h b = absurd (omega arith)
+length-between (suc zero) n o l h b = sym (ap length (decimal-small n (omega arith)))
+length-between (suc (suc k)) n o l h b = 
+    let e : suc (suc k) - 1 ≡ suc k = omega arith in sym (length-power (suc k) n (rw e at (l (omega arith))) h b)
 
 -- ---- written, the last digit first
 

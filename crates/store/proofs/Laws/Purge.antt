@@ -1,5 +1,5 @@
 -- What purge decides by value is what step leaves. Definitions: plan_purge/specs/Purge.antt.
--- In order: nothing written, the entries placed, a partition's area, a rewrite of it, purge, the part in force.
+-- In order: nothing written, the entries placed, a partition's area, a rewrite of it, purge.
 -- Assumes nothing.
 use mathlib.Core.Path.{_≡_, refl, sym, ap, _∙_}
 use mathlib.Core.Bool.{true, cond}
@@ -9,18 +9,18 @@ use native.Mathlib.Omega.{arith}
 use lib.ListN.{length, take, drop, length-append}
 use lib.Seq.{take-take}
 use lib.Dec.{ltb, leb}
-use borrow.Author.Tests.{lt-ltb, le-ltb, lt-leb, le-leb, ltb-true, ltb-false, leb-false}
-use Rattle.lists.specs.Lists.{part, over}
+use borrow.Author.Tests.{lt-ltb, le-ltb, le-leb, ltb-true, ltb-false, leb-false}
+use Rattle.lists.specs.Lists.{over}
 use Rattle.lists.proofs.Laws.All.{All}
-use Rattle.lists.proofs.Laws.Bools.{split, split-eq, and-false}
+use Rattle.lists.proofs.Laws.Bools.{split, split-eq}
 use Rattle.rules.specs.Limits.{partitionsMax, areasMax, rowsMax, entriesMax}
 use Rattle.rules.specs.Span.{Span, spans, entriesOf, wordsOf}
 use Rattle.rules.specs.Rewrite.{purgedIn, purged, skips}
 use Rattle.rules.specs.Store.{Store, entriesAt, rowsAt, spansAt, laid, laidInSpare, purgedStore}
-use Rattle.rules.specs.Answers.{accepted, livePart}
+use Rattle.rules.specs.Answers.{accepted}
 use Rattle.rules.specs.WellFormed.{endsOk, wellFormed}
 use Rattle.rules.specs.Calls.{purgeAnswer}
-use Rattle.rules.specs.Step.{Outcome, areaRows, purgeOutcome, step, purge}
+use Rattle.rules.specs.Step.{Outcome, purgeOutcome, step, purge}
 use Rattle.rules.specs.declared.Answer.{Answer}
 use Rattle.rules.specs.declared.Answer.the-variants.{Rewritten, Skipped, Refused}
 use Rattle.rules.specs.declared.Refusal.the-variants.{UnknownPartition, Unsound}
@@ -29,18 +29,18 @@ use Rattle.rules.specs.declared.State.{State}
 use Rattle.rules.proofs.Laws.Rewrite.{length-joined, length-purgedIn}
 use Rattle.rules.proofs.Laws.Span.{length-entriesOf}
 use Rattle.rules.proofs.Laws.WellFormed.{StoreOk, store-facts}
-use Rattle.lent.specs.Entries.{tableOf}
 use Rattle.lent.specs.Shapes.{saved}
-use Rattle.lent.proofs.Lists.{filled-all}
 use Rattle.lent.proofs.Saved.{saved-none, saved-over}
 use Rattle.rewrite_plan.specs.Plan.{spansIn}
-use Rattle.rewrite.specs.Kept.{endsFit, areaOf, asRewritten, rewrittenOf}
-use Rattle.rewrite.specs.Copied.{areasApart, copyOk, rowsCopied}
+use Rattle.rewrite.specs.Kept.{areaOf, asRewritten, rewrittenOf}
+use Rattle.rewrite.specs.Copied.{areasApart, rowsCopied}
 use Rattle.area.specs.declared.Area.{Area}
-use Rattle.rewrite_plan.specs.declared.Plan.{Plan}
+use Rattle.rewrite.proofs.Laws.Store.{copied-nowhere as copied-none}
 use Rattle.rewrite.proofs.Laws.Store.{Dated, dated, area-entries, skips-same, purged-area, purged-copied}
 use Rattle.rewrite.proofs.Laws.Copied.{apart-before, apart-after}
 use Rattle.area.specs.Area.{entriesIn, baseOf, areaAt}
+use Rattle.area.specs.Load.{loadedArea}
+use Rattle.area.proofs.Laws.Load.{loaded-area}
 use Rattle.partition.specs.Areas.{movedTo}
 use Rattle.admit.specs.Admit.{partitionOf}
 use Rattle.plan_purge.specs.Purge.{unwrittenPurge, planAt, movedPurge, purgePlan, newOf, placeOf}
@@ -48,28 +48,22 @@ use Rattle.plan_purge.specs.declared.Purge.{Purge}
 use Rattle.store.specs.Kept.{storeOf, Left}
 use Rattle.store.specs.Done.{donePurge}
 use Rattle.store.specs.declared.Kept.{Kept}
-use Rattle.store.proofs.Laws.Kept.{sound-is}
+use Rattle.store.proofs.Laws.Kept.{restIn, sound-is}
 use Rattle.store.proofs.Laws.Scan.{entries-facts, words}
 
 -- ---- a purge carried out
 
-abbrev pub Carried : List Entry → List ℕ → Outcome → Purge → Type 0
-Carried es rs out w =
-    Left out (donePurge w) (rowsCopied (w .old) (w .plan) (w .from) (w .to) rs) (saved placeOf newOf es w 64)
-
--- no area lies apart from itself
-copied-none : (a : Area) (plan : Plan) (n : ℕ) (rs : List ℕ) → rowsCopied a plan n n rs ≡ rs
-unfolding rowsCopied copyOk
-copied-none a plan n rs = let b = leb (n + rowsMax) (length rs) in
-    rw (lt-leb (n + rowsMax) n (omega arith), and-false b, and-false b, and-false (endsFit 0 (entriesIn a)))
+abbrev pub Carried : State → List Entry → List ℕ → Outcome → Purge → Type 0
+Carried s es rs out w =
+    Left out (donePurge s w) (rowsCopied (w .old) (w .plan) (w .from) (w .to) rs) (saved placeOf newOf es w 64)
 
 -- a purge that is refused or skipped leaves the store
 unwritten-left : (s : State) (es : List Entry) (rs : List ℕ) (p : ℕ) (a : Answer) (next : Store)
     → cond (accepted a) next (storeOf s rs es) ≡ storeOf s rs es
-    → Carried es rs (purgeOutcome p a next (storeOf s rs es)) (unwrittenPurge s (length es) a)
-unfolding placeOf
-unwritten-left s es rs p a next same = let w = unwrittenPurge s (length es) a in
-    (refl, (λ j. storeOf s (copied-none (w .old) (w .plan) 0 rs j)
+    → Carried s es rs (purgeOutcome p a next (storeOf s rs es)) (unwrittenPurge (length es) (length rs) a)
+unfolding placeOf movedTo
+unwritten-left s es rs p a next same = let w = unwrittenPurge (length es) (length rs) a in
+    (refl, (λ j. storeOf s (copied-none (w .old) (w .plan) (length rs) rs j)
       (saved-none placeOf newOf es w (λ i. rw (le-ltb i 0 (omega arith)) (omega arith)) 64 j)) ∙ sym same)
 
 -- ---- the entries of spans, one behind the other
@@ -152,21 +146,24 @@ module _ (s : State) (es : List Entry) (rs : List ℕ) (ok : StoreOk (storeOf s 
         apart l epochs
       ∙ ap (λ (ss : List Span). over to (wordsOf (purged l ss)) rs) spans-are)
 
+  abbrev purgeOf : ℕ → Purge
+  purgeOf l = movedPurge (areaAt es (partitionOf p s)) (length es) (s .partitions .spare) l p (partitionOf p s)
+
   entries-are : (l : ℕ)
-      → saved placeOf newOf es (movedPurge s (length es) p (partitionOf p s) (areaAt es (partitionOf p s)) l) 64
+      → saved placeOf newOf es (purgeOf l) 64
       ≡ over (entriesMax * s .partitions .spare) (entriesOf 0 (purged l (spansAt p (storeOf s rs es)))) es
   entries-are l = let ss = spansAt p (storeOf s rs es) in let spare = s .partitions .spare in
       let b = base-is entriesMax spare (ok .areas .spare-inside) in let n = ok .entries-length in
       let i = ok .areas .spare-inside in let c = length-purged l ss in
       let f = ok .partition p h .spans-ok .entries-fit in
-      placed (movedPurge s (length es) p (partitionOf p s) (areaAt es (partitionOf p s)) l) (purged l ss) es
+      placed (purgeOf l) (purged l ss) es
         (ap (λ d. d .area) (done-is l)) (omega arith) (rw b (omega arith)) (rw b (omega arith)) refl
       ∙ ap (λ (k : ℕ). over k (entriesOf 0 (purged l ss)) es) b
 
   moved-left : (l : ℕ)
-      → Carried es rs (purgeOutcome p (Rewritten (length (wordsOf (purged l (spansAt p (storeOf s rs es))))))
+      → Carried s es rs (purgeOutcome p (Rewritten (length (wordsOf (purged l (spansAt p (storeOf s rs es))))))
         (laidInSpare p (purged l (spansAt p (storeOf s rs es))) (storeOf s rs es)) (storeOf s rs es))
-        (movedPurge s (length es) p (partitionOf p s) (areaAt es (partitionOf p s)) l)
+        (purgeOf l)
   unfolding laidInSpare laid movedTo
   moved-left l = let ts = purged l (spansAt p (storeOf s rs es)) in
       let ps : movedTo p (length (wordsOf ts)) (length ts) (s .partitions)
@@ -179,27 +176,17 @@ module _ (s : State) (es : List Entry) (rs : List ℕ) (ok : StoreOk (storeOf s 
 -- ---- purge
 
 pub purge-left : (s : State) → length (s .partitions .at) ≡ partitionsMax → (es : List Entry) (rs : List ℕ) (p : ℕ)
-    → Carried es rs (step (purge p) (storeOf s rs es)) (purgePlan s (tableOf es) (length es) (length rs) p)
+    → Carried s es rs (step (purge p) (storeOf s rs es))
+      (purgePlan s (restIn s es rs) (loadedArea es (s .partitions) p) (length es) (length rs) p)
 unfolding step purgeAnswer purgedStore purgePlan
 purge-left s n es rs p =
     let st = storeOf s rs es in let l = s .manager .clock .lse in let next = purgedStore p st in
     rw (sound-is s es rs) (split (wellFormed st)
-  (λ t. let ok = store-facts st n t in rw (t, filled-all es (ok .entries-length)) (split (leb partitionsMax p)
+  (λ t. let ok = store-facts st n t in rw (t, loaded-area es (ok .entries-length) (s .partitions) p)
+    (split (leb partitionsMax p)
     (λ u. rw u (unwritten-left s es rs p (Refused UnknownPartition) next refl))
     (λ u. let h = leb-false partitionsMax p u in split (skips l (spansAt p st))
       (λ k. rw (u, skips-are s es rs ok p h l, k)
         (unwritten-left s es rs p (Skipped (partitionOf p s .rows)) st refl))
       (λ k. rw (u, skips-are s es rs ok p h l, k) (moved-left s es rs ok p h l)))))
   (λ f. rw f (unwritten-left s es rs p (Refused Unsound) next refl)))
-
--- ---- the part in force
-
--- what in_force returns of the old and the new area after purge is what step's purge returns
-pub purge-in-force : (s : State) (rs : List ℕ) (es : List Entry) (p : ℕ)
-    (r : Kept) (rs′ : List ℕ) (es′ : List Entry) → Left (step (purge p) (storeOf s rs es)) r rs′ es′
-    → livePart (part (rowsMax * partitionOf p s .area) rowsMax rs′)
-      (part (rowsMax * s .partitions .spare) rowsMax rs′) (r .answer)
-      ≡ step (purge p) (storeOf s rs es) .live
-unfolding step
-purge-in-force s rs es p r rs′ es′ left = λ j. livePart (areaRows (partitionOf p s .area) (left .1 j))
-    (areaRows (s .partitions .spare) (left .1 j)) (left .0 j)

@@ -30,18 +30,22 @@ use Rattle.rules.proofs.Laws.Answers.{refused}
 use Rattle.rules.proofs.Laws.Hides.{length-flags}
 use Rattle.rules.proofs.Laws.SpansTest.{EntriesOk, entries-ok}
 use Rattle.rules.proofs.Laws.WellFormed.{StoreOk, store-facts}
-use Rattle.lent.specs.Entries.{tableOf}
-use Rattle.lent.proofs.Lists.{filled-all}
 use Rattle.visible.specs.declared.View.{View}
 use Rattle.visible.specs.View.{seesView, appliesView}
 use Rattle.visible.specs.Scan.{scanOk, scanned, bitmapScanned}
 use Rattle.visible.proofs.Laws.Scan.{spanFlags, scan-ok, scanned-spans, bitmap-spans}
 use Rattle.area.specs.Area.{entriesIn, areaAt}
+use Rattle.area.specs.Load.{loadedArea}
+use Rattle.area.proofs.Laws.Load.{loaded-area}
 use Rattle.admit.specs.Admit.{partitionOf}
+use Rattle.lists.proofs.Laws.Parts.{take-pad}
+use Rattle.rules.specs.Limits.{depsMax}
+use Rattle.rules.specs.Manager.{depsAt}
+use Rattle.rules.specs.Sees.{seesRw, appliesRw}
 use Rattle.plan_scan.specs.Scan.{noBits, refusedLook, lookAt, rwView, roView, lookBy, rwLook, roLook, copied}
 use Rattle.plan_scan.specs.declared.Look.{Look}
 use Rattle.store.specs.Kept.{storeOf, Showed}
-use Rattle.store.proofs.Laws.Kept.{sound-is}
+use Rattle.store.proofs.Laws.Kept.{restIn, sound-is}
 
 -- ---- a scan of the store st carried out, with these bytes lent
 
@@ -119,7 +123,7 @@ module _ (s : State) (es : List Entry) (rs : List ℕ) (ok : StoreOk (storeOf s 
           (refuse ShortBitmap (ltb (length lent) (bytesFor (partitionOf p s .rows)))
           (Scanned (partitionOf p s .rows) (ones (flagsAt r p (storeOf s rs es)))))
           (flagsAt r p (storeOf s rs es)) lent (storeOf s rs es))
-          (lookAt es (partitionOf p s) v (length lent))
+          (lookAt (areaAt es (partitionOf p s)) (partitionOf p s) v (length lent))
     unfolding lookAt
     scan-room lent = let q = partitionOf p s in let n = bytesFor (q .rows) in let st = storeOf s rs es in
         split (ltb (length lent) n)
@@ -131,11 +135,12 @@ module _ (s : State) (es : List Entry) (rs : List ℕ) (ok : StoreOk (storeOf s 
 look-left : (s : State) → length (s .partitions .at) ≡ partitionsMax → (es : List Entry) (rs lent : List ℕ) (p : ℕ)
     (r : Reader) (v : View) → seesView v ≡ seesOf r (s .manager) → appliesView v ≡ appliesOf r (s .manager)
     → Carried lent (storeOf s rs es) (step (scan r p lent) (storeOf s rs es))
-      (lookBy (isReader r (s .manager)) v s (tableOf es) (length es) (length rs) (length lent) p)
+      (lookBy (isReader r (s .manager)) v s (restIn s es rs) (loadedArea es (s .partitions) p) (length lent) p)
 unfolding step scanAnswer
 look-left s n es rs lent p r v sees applies = let st = storeOf s rs es in let flags = flagsAt r p st in
     rw (sound-is s es rs) (split (wellFormed st)
-  (λ t. let ok = store-facts st n t in rw (t, filled-all es (ok .entries-length)) (split (leb partitionsMax p)
+  (λ t. let ok = store-facts st n t in rw (t, loaded-area es (ok .entries-length) (s .partitions) p)
+    (split (leb partitionsMax p)
     (λ u. rw u (refused-left UnknownPartition s es rs lent flags))
     (λ u. split (isReader r (s .manager))
       (λ o. rw (u, o) (scan-room s es rs ok p (leb-false partitionsMax p u) r v sees applies lent))
@@ -147,11 +152,12 @@ look-left s n es rs lent p r v sees applies = let st = storeOf s rs es in let fl
 module _ (s : State) (n : length (s .partitions .at) ≡ partitionsMax) (es : List Entry) (rs lent : List ℕ) (i p : ℕ)
     where
   pub rw-left : Carried lent (storeOf s rs es) (step (scan (Rw i) p lent) (storeOf s rs es))
-      (rwLook s (tableOf es) (length es) (length rs) (length lent) i p)
+      (rwLook s (restIn s es rs) (loadedArea es (s .partitions) p) (length lent) i p)
   unfolding rwLook seesOf appliesOf seesView appliesView
-  rw-left = look-left s n es rs lent p (Rw i) (rwView i (s .manager)) refl refl
+  rw-left = let m = s .manager in let e = take-pad depsMax 0 (depsAt i m) in
+      look-left s n es rs lent p (Rw i) (rwView i m) (ap (seesRw i) e) (ap (appliesRw i) e)
 
   pub ro-left : Carried lent (storeOf s rs es) (step (scan (Ro i) p lent) (storeOf s rs es))
-      (roLook s (tableOf es) (length es) (length rs) (length lent) i p)
+      (roLook s (restIn s es rs) (loadedArea es (s .partitions) p) (length lent) i p)
   unfolding roLook seesOf appliesOf seesView appliesView
   ro-left = look-left s n es rs lent p (Ro i) (roView i (s .manager)) refl refl

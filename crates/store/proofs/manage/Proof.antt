@@ -6,11 +6,13 @@ use denote.Triple.Spec.{tripleOf}
 use denote.Triple.Table.{entered, cited}
 use Rattle.rules.specs.Step.{step, manage}
 use Rattle.store.specs.Kept.{storeOf, Left, managerKept}
-use Rattle.shapes.proofs.Core.{LoadAll}
-use Rattle.shapes.proofs.Look.{Look, Core, meets}
-use Rattle.lent.proofs.load_all.Symbol as load-all
-use Rattle.lent.proofs.load_all.Met as load-all-thm
-use Rattle.store.proofs.Types.{kept, managerCall}
+use Rattle.shapes.proofs.Core.{Asks, Rests}
+use Rattle.shapes.proofs.Look.{Look, asking, Core, meets}
+use Rattle.partition_sound.proofs.ask.Symbol as ask
+use Rattle.partition_sound.proofs.ask.Met as ask-thm
+use Rattle.partition_sound.proofs.rest_ok.Symbol as rest
+use Rattle.partition_sound.proofs.rest_ok.Met as rest-thm
+use Rattle.store.proofs.Types.{kept, managerCall, asks}
 use Rattle.store.proofs.Laws.Kept.{manage-left}
 use Rattle.store.proofs.books.manage_core.Symbol as core
 use Rattle.store.proofs.books.manage_core.Met as core-thm
@@ -20,7 +22,7 @@ use Rattle.store.proofs.manage.Statement as stated
 use Rattle.store.proofs.manage.Code as code
 
 abbrev shape : Look
-shape = record { answer = kept; given = managerCall ∷ []; core = core.name; answerOf = managerKept;
+shape = record { head = asking asks; answer = kept; given = managerCall ∷ []; core = core.name; answerOf = managerKept;
   Ends = λ s es rs c r. Left (step (manage c) (storeOf s rs es)) r rs es;
   ends = λ s g es rs κs t. manage-left s es rs (t .0) }
 
@@ -29,8 +31,10 @@ unfolding code.routine tablesOf
 manage-spec 𝓤 H 𝓜 𝓖 𝓡 =
     entered 𝓤 H (tripleOf 𝓤 H (𝓖 .A) f.signature (f.spec 𝓤 H (𝓖 .A) (𝓜 .mem) (𝓡 .run)))
     (tables 𝓤 H 𝓜 𝓡 code.env .C) (tables 𝓤 H 𝓜 𝓡 code.env .Λ) #store·manage code.function (code.unfolded 𝓤 H 𝓜 𝓡)
-    (meets shape 𝓤 H (𝓖 .A) (givenOf 𝓤 H 𝓜 𝓖) (𝓜 .mem) (𝓡 .run) (tablesOf 𝓤 H 𝓜 (tables 𝓤 H 𝓜 𝓡 code.env))
-    (cited 𝓤 H (LoadAll 𝓤 H (𝓖 .A) (𝓜 .mem) (𝓡 .run)) 𝓜 𝓡 code.env load-all.name load-all.routine
-      code.calls-lent·load-all (load-all-thm.met 𝓤 H 𝓜 𝓖 𝓡))
+    (meets shape 𝓤 H (𝓖 .A) (givenOf 𝓤 H 𝓜 𝓖) (tablesOf 𝓤 H 𝓜 (tables 𝓤 H 𝓜 𝓡 code.env))
+    ((cited 𝓤 H (Asks asks 𝓤 H (𝓖 .A)) 𝓜 𝓡 code.env ask.name ask.routine code.calls-partition-sound·ask
+      (ask-thm.met 𝓤 H 𝓜 𝓖 𝓡)),
+    (cited 𝓤 H (Rests asks 𝓤 H (𝓖 .A)) 𝓜 𝓡 code.env rest.name rest.routine code.calls-partition-sound·rest-ok
+      (rest-thm.met 𝓤 H 𝓜 𝓖 𝓡)))
     (cited 𝓤 H (Core shape 𝓤 H (𝓖 .A)) 𝓜 𝓡 code.env core.name core.routine code.calls-store·books·manage-core
       (core-thm.met 𝓤 H 𝓜 𝓖 𝓡)))

@@ -1,28 +1,30 @@
 -- Where the epochs rise, settling drops the records that wait before the first open one, and LCE is the last
 -- of their epochs.
 -- Definitions: specs/Close.antt; rules/specs/Close.antt.
--- In order: LCE, the records kept, the manager settled, where the first record stays open.
+-- In order: LCE, the records kept, the manager settled, records without their rows.
 -- Assumes nothing.
-use mathlib.Core.Path.{_≡_, refl, sym, _∙_}
-use mathlib.Core.Bool.{true, false, not}
-use mathlib.Core.List.{List, [], _∷_, foldr, List·Memᴰ·head as here}
-use Prim.Native.Nat.{ℕ, zero, suc, _≤_, _<_, max}
+use mathlib.Core.Path.{_≡_, refl, ap, _∙_}
+use mathlib.Core.Bool.{true, false, not, cond}
+use mathlib.Core.List.{List, [], _∷_, map, foldr}
+use Prim.Native.Nat.{ℕ, suc, _≤_, _<_, max}
 use native.Mathlib.Omega.{arith}
-use lib.ListN.{length, drop, set}
+use lib.Dec.{eqb}
+use lib.ListN.{length, take, drop}
 use borrow.Author.Tests.{lt-ltb, le-ltb, le-leb, lt-leb}
 use Rattle.lists.specs.Lists.{keepIf, rises}
 use Rattle.lists.proofs.Laws.Bools.{split, and-false}
 use Rattle.lists.proofs.Laws.Order.{rises-split}
-use Rattle.rules.specs.Manager.{isOpen, withClock, withWriters, withLce}
+use Rattle.rules.specs.Limits.{depsMax}
+use Rattle.rules.specs.Manager.{Writer, view, views, isOpen, withClock, withWriters, withLce}
 use Rattle.rules.specs.Close.{unblocked, settledLce, settled}
-use Rattle.rules.specs.declared.Clock.{Clock}
 use Rattle.rules.specs.declared.RwTxn.{RwTxn}
+use Rattle.rules.specs.declared.RwTxns.{RwTxns}
 use Rattle.rules.specs.declared.Manager.{Manager}
-use Rattle.rules.proofs.Laws.Manager.{epochs, WriterFacts, status-waits}
+use Rattle.rules.proofs.Laws.Manager.{epochs}
 use Rattle.rules.proofs.Laws.Close.{reached, kept}
-use Rattle.txn_sound.proofs.Laws.Sound.{none-below}
-use Rattle.txn.specs.Records.{cut}
-use Rattle.txn_close.specs.Close.{lead, runLce}
+use Rattle.txn.specs.Records.{viewed}
+use Rattle.txn_close.specs.Close.{lead, runLce, reachOf}
+use Rattle.txn_close.specs.declared.close.Reached.{Reached}
 
 -- ---- LCE
 
@@ -32,15 +34,15 @@ max-base b e (x ∷ xs) h = let ih = max-base b e xs h in omega arith
 
 module _ (hi : ℕ) where
   -- every open one is above e
-  clear-above : (k e : ℕ) (ts : List RwTxn) → rises k hi (epochs ts) ≡ true → e ≤ k → unblocked ts e ≡ true
+  clear-above : (k e : ℕ) (ts : List Writer) → rises k hi (epochs ts) ≡ true → e ≤ k → unblocked ts e ≡ true
   clear-above k e [] r h = refl
   clear-above k e (t ∷ ts) r h =
       let s = rises-split k hi (t .epoch) (epochs ts) r in let u = s .above in
       let more = clear-above (t .epoch) e ts (s .rest) (omega arith) in
       split (isOpen t) (λ o. rw (o, le-leb e (t .epoch) (omega arith), more)) (λ n. rw (n, more))
 
-  module _ (all : List RwTxn) where
-    stuck : (ts : List RwTxn) (k b : ℕ) → rises k hi (epochs ts) ≡ true
+  module _ (all : List Writer) where
+    stuck : (ts : List Writer) (k b : ℕ) → rises k hi (epochs ts) ≡ true
       → ((e : ℕ) → k < e → unblocked all e ≡ false)
         → foldr max b (epochs (keepIf (reached all) ts)) ≡ b
     stuck [] k b r h = refl
@@ -49,7 +51,7 @@ module _ (hi : ℕ) where
         let ih = stuck ts (t .epoch) b (s .rest) (λ e l. h e (omega arith)) in
         rw (h (t .epoch) u, and-false (not (isOpen t))) ih
 
-    run-from : (ts : List RwTxn) (b : ℕ) → rises b hi (epochs ts) ≡ true
+    run-from : (ts : List Writer) (b : ℕ) → rises b hi (epochs ts) ≡ true
       → ((e : ℕ) → unblocked all e ≡ unblocked ts e)
         → foldr max b (epochs (keepIf (reached all) ts)) ≡ runLce b ts
     run-from [] b r h = refl
@@ -63,27 +65,27 @@ module _ (hi : ℕ) where
           let ih = run-from ts (t .epoch) (s .rest) (λ e. h e ∙ rw n) in
           rw (n, clear) (max-base b (t .epoch) (epochs (keepIf (reached all) ts)) (omega arith) ∙ ih))
 
-  settled-run : (lce : ℕ) (ts : List RwTxn) → rises lce hi (epochs ts) ≡ true
+  settled-run : (lce : ℕ) (ts : List Writer) → rises lce hi (epochs ts) ≡ true
     → settledLce lce ts ≡ runLce lce ts
   unfolding settledLce
   settled-run lce ts r = run-from ts ts lce r (λ e. refl)
 
   -- ---- the records kept
 
-  run-up : (ts : List RwTxn) (b : ℕ) → rises b hi (epochs ts) ≡ true → b ≤ runLce b ts
+  run-up : (ts : List Writer) (b : ℕ) → rises b hi (epochs ts) ≡ true → b ≤ runLce b ts
   run-up [] b r = omega arith
   run-up (t ∷ ts) b r = let s = rises-split b hi (t .epoch) (epochs ts) r in let u = s .above in
       split (isOpen t) (λ o. rw o (omega arith))
         (λ n. let ih = run-up ts (t .epoch) (s .rest) in rw n (omega arith))
 
-  all-stay : (ts : List RwTxn) (k b : ℕ) → rises k hi (epochs ts) ≡ true → b ≤ k → keepIf (kept b) ts ≡ ts
+  all-stay : (ts : List Writer) (k b : ℕ) → rises k hi (epochs ts) ≡ true → b ≤ k → keepIf (kept b) ts ≡ ts
   all-stay [] k b r h = refl
   all-stay (t ∷ ts) k b r h =
       let s = rises-split k hi (t .epoch) (epochs ts) r in let u = s .above in
       let more = all-stay ts (t .epoch) b (s .rest) (omega arith) in
       split (isOpen t) (λ o. rw (o, more)) (λ n. rw (n, lt-ltb b (t .epoch) (omega arith), more))
 
-  kept-run : (ts : List RwTxn) (b : ℕ) → rises b hi (epochs ts) ≡ true
+  kept-run : (ts : List Writer) (b : ℕ) → rises b hi (epochs ts) ≡ true
     → keepIf (kept (runLce b ts)) ts ≡ drop (lead ts) ts
   kept-run [] b r = refl
   kept-run (t ∷ ts) b r =
@@ -95,41 +97,33 @@ module _ (hi : ℕ) where
 
 -- ---- the manager settled
 
-pub lead-length : (ts : List RwTxn) → lead ts ≤ length ts
+pub lead-length : (ts : List Writer) → lead ts ≤ length ts
 lead-length [] = omega arith
 lead-length (t ∷ ts) = let ih =
     lead-length ts in split (isOpen t) (λ o. rw o (omega arith)) (λ n. rw n (omega arith))
 
-lead-none : (lce : ℕ) (ts : List RwTxn) → lead ts ≡ 0 → runLce lce ts ≡ lce
+-- nothing waited before the first open one
+pub lead-none : (lce : ℕ) (ts : List Writer) → lead ts ≡ 0 → runLce lce ts ≡ lce
 lead-none lce [] e = refl
 lead-none lce (t ∷ ts) e = split (isOpen t) (λ o. rw o) (λ n. let z = rw n at e in absurd (omega arith))
 
-module _ (m : Manager) (ts : List RwTxn) (r : rises (m .clock .lce) (m .clock .ec) (epochs ts) ≡ true) where
+module _ (m : Manager) (ts : List Writer) (r : rises (m .clock .lce) (m .clock .ec) (epochs ts) ≡ true) where
   pub settled-runs : settled ts m
     ≡ withClock (withLce (runLce (m .clock .lce) ts) (m .clock)) (withWriters (drop (lead ts) ts) m)
   unfolding settled
   settled-runs = rw (settled-run (m .clock .ec) (m .clock .lce) ts r, kept-run (m .clock .ec) ts (m .clock .lce) r)
 
-  -- nothing waited before the first open one
-  pub settled-still : lead ts ≡ 0 → withWriters ts m ≡ settled ts m
-  settled-still e = sym (settled-runs ∙ rw (lead-none (m .clock .lce) ts e, e))
+-- ---- records without their rows settle alike
 
--- ---- where a record behind the first is closed nothing is reached
+lead-bare : (ds : List ℕ) (ts : List RwTxn) → lead (map (view []) ts) ≡ lead (views ds ts)
+lead-bare ds [] = refl
+lead-bare ds (t ∷ ts) = ap (λ n. cond (eqb (t .waiting) 0) 0 (suc n)) (lead-bare (drop depsMax ds) ts)
 
-module _ (c : Clock) where
-  first-open : (t : RwTxn) (ts : List RwTxn) → WriterFacts c (t ∷ ts) → isOpen t ≡ true
-  first-open t ts f = split (isOpen t) (λ o. o) λ n.
-    let s = rises-split (c .lce) (c .ec) (t .epoch) (epochs ts) (f .rising) in
-    let b = status-waits (t ∷ ts) t (f .status t (here refl)) n .behind in
-    let e = none-below (c .ec) (t .epoch) (t .epoch) ts (omega arith) (s .rest) in
-    absurd (let z : true ≡ false = sym (rw n at b) ∙ e in let y : _≡_ {A = ℕ} 0 1 = cc in omega arith)
+run-bare : (lce : ℕ) (ds : List ℕ) (ts : List RwTxn) → runLce lce (map (view []) ts) ≡ runLce lce (views ds ts)
+run-bare lce ds [] = refl
+run-bare lce ds (t ∷ ts) = ap (λ n. cond (eqb (t .waiting) 0) lce n) (run-bare (t .epoch) (drop depsMax ds) ts)
 
-  pub lead-set : (ts : List RwTxn) (j : ℕ) (v : RwTxn) → WriterFacts c ts → 0 < j → lead (set ts j v) ≡ 0
-  lead-set [] j v f h = refl
-  lead-set (t ∷ ts) zero v f h = absurd (omega arith)
-  lead-set (t ∷ ts) (suc j) v f h = rw (first-open t ts f)
-
-  pub lead-cut : (ts : List RwTxn) (j : ℕ) → WriterFacts c ts → 0 < j → lead (cut j (suc j) ts) ≡ 0
-  lead-cut ts zero f h = absurd (omega arith)
-  lead-cut [] (suc j) f h = refl
-  lead-cut (t ∷ ts) (suc j) f h = rw (first-open t ts f)
+pub reached-is : (lce : ℕ) (ts : RwTxns) (ds : List ℕ) {r : Reached}
+    → r ≡ reachOf lce (map (view []) (take (ts .count) (ts .at))) → r ≡ reachOf lce (viewed ts ds)
+reached-is lce ts ds e = let us = take (ts .count) (ts .at) in
+    e ∙ (λ i. record { lce = run-bare lce ds us i; count = lead-bare ds us i })

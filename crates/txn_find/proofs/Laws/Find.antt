@@ -1,36 +1,38 @@
 -- Laws of findFrom: what a place that was found says, and that none was. Definitions: specs/Find.antt.
 -- Assumes nothing.
-use mathlib.Core.Path.{_≡_, refl, ap, _∙_}
-use mathlib.Core.Bool.{Bool, true, false}
+use mathlib.Core.Path.{_≡_, refl, sym, ap, _∙_}
+use mathlib.Core.Bool.{Bool, true, false, cond}
 use mathlib.Core.List.{List, [], _∷_}
-use Prim.Native.Nat.{ℕ, suc, _+_, _-_, _≤_, _<_, min}
+use Prim.Native.Nat.{ℕ, suc, _+_, _-_, _*_, _≤_, _<_, min}
 use native.Mathlib.Omega.{arith}
-use lib.ListN.{length, take, getD, length-take}
+use lib.ListN.{length, drop, getD, length-take}
 use lib.Seq.{getD-take}
 use mir.Val.{Val}
 use denote.Laws.{Is}
 use denote.Struct.Declared.{row}
-use Rattle.lists.specs.Lists.{anyOf, firstOf}
+use Rattle.lists.specs.Lists.{anyOf, firstOf, part}
 use Rattle.lists.proofs.Laws.Bools.{split, or-false-left, or-false-right}
 use Rattle.lists.proofs.Laws.Branches.{said}
-use Rattle.rules.specs.Limits.{writersMax, readersMax}
-use Rattle.rules.specs.Manager.{opens, hasTicket, writersOf, readersOf, noRo}
+use Rattle.rules.specs.Limits.{writersMax, readersMax, depsMax}
+use Rattle.rules.specs.Manager.{noWriter, noRw, noRo, recordsOf, view, views, writersOf, readersOf, opens, hasTicket}
+use Rattle.rules.specs.declared.RwTxn.{RwTxn}
 use Rattle.rules.specs.declared.Manager.{Manager}
 use Rattle.rules.proofs.Manager as manager-type
-use Rattle.txn_find.specs.Find.{findFrom, writerAt, readerAt}
+use Rattle.rules.proofs.Laws.Views.{writers-length, views-at}
+use Rattle.txn_find.specs.Find.{findFrom, opensAt, writerAt, readerAt}
 use Rattle.txn_find.specs.declared.Found.{Found}
 use Rattle.txn_find.specs.declared.Found.the-variants.{At, Nothing}
-use Rattle.txn_find.proofs.Laws.Places.{pastRw, manager-writers-32, manager-readers-32}
+use Rattle.txn_find.proofs.Laws.Places.{manager-writers-32, manager-readers-32}
 
 abbrev isAt : Found → Bool
 isAt (At j) = true
 isAt Nothing = false
 
--- place j is the first of the n places in use of xs that passes; d is what a read past the end would give
-pub record Stands {A : Type 0} (p : A → Bool) (xs : List A) (n places : ℕ) (d : A) (j : ℕ) : Type 0 where
-  pub below : j < min n places
-  pub first : (e : A) → firstOf p e (take n xs) ≡ getD xs j d
-  pub any : anyOf p (take n xs) ≡ true
+-- place j, one of those in use, is the first of xs that passes, and v stands there
+pub record Stands {A : Type 0} (p : A → Bool) (xs : List A) (count places : ℕ) (v : A) (j : ℕ) : Type 0 where
+  pub below : j < min count places
+  pub first : (e : A) → firstOf p e xs ≡ v
+  pub any : anyOf p xs ≡ true
 
 -- no place in use passes
 pub record Missing {A : Type 0} (p : A → Bool) (xs : List A) : Type 0 where
@@ -56,38 +58,54 @@ module _ {A : Type 0} (p : A → Bool) where
   first-none (x ∷ xs) e h =
     rw (or-false-left (p x) (anyOf p xs) h) (first-none xs e (or-false-right (p x) (anyOf p xs) h))
 
-  module _ (xs : List A) (n : ℕ) where
-    stands : (places : ℕ) (d : A) (j : ℕ) → length xs ≡ places → findFrom p (take n xs) 0 ≡ At j
-      → Stands p xs n places d j
-    stands places d j len e =
-        let w = found-from (take n xs) 0 j d e in let b = w .1 in let z : j - 0 ≡ j = omega arith in
-        record { below = (let q = length-take n xs in omega arith);
-          first = λ g. (rw z at (w .2 g)) ∙ getD-take n xs j d (let q = length-take n xs in omega arith);
-          any = said (found-any (take n xs) 0) (ap isAt e) }
+  module _ (xs : List A) where
+    stands : (count places : ℕ) (d v : A) (j : ℕ) → length xs ≡ min count places → findFrom p xs 0 ≡ At j
+      → (j < length xs → getD xs j d ≡ v) → Stands p xs count places v j
+    stands count places d v j len e there =
+        let w = found-from xs 0 j d e in let b = w .1 in let z : j - 0 ≡ j = omega arith in
+        record { below = omega arith; first = λ g. (rw z at (w .2 g)) ∙ there (omega arith);
+          any = said (found-any xs 0) (ap isAt e) }
 
-    missing : findFrom p (take n xs) 0 ≡ Nothing → Missing p (take n xs)
-    missing e = let no = said (found-any (take n xs) 0) (ap isAt e) in
-      record { any = no; first = λ d. first-none (take n xs) d no }
+    missing : findFrom p xs 0 ≡ Nothing → Missing p xs
+    missing e = let no = said (found-any xs 0) (ap isAt e) in record { any = no; first = λ d. first-none xs d no }
+
+-- a record is found by its epoch and its waiting word, which a view keeps
+find-views : (i : ℕ) (ds : List ℕ) (ts : List RwTxn) (k : ℕ)
+    → findFrom (opens i) (views ds ts) k ≡ findFrom (opensAt i) ts k
+find-views i ds [] k = refl
+find-views i ds (t ∷ ts) k = let ih = find-views i (drop depsMax ds) ts (k + 1) in
+    ap (λ f. cond (opensAt i t) (At k) f) ih
 
 -- the same of the manager's records, where r is what the search answered
 module _ (m : Manager) (i : ℕ) {r : Found} where
-  pub writer-none : r ≡ writerAt i (m .writers) → r ≡ Nothing → Missing (opens i) (writersOf m)
+  pub writer-found : r ≡ writerAt i (m .writers) → r ≡ findFrom (opens i) (writersOf m) 0
   unfolding writerAt
-  writer-none a e = missing (opens i) (m .writers .at) (m .writers .count) (said a e)
+  writer-found a = a ∙ sym (find-views i (m .deps) (recordsOf m) 0)
+
+  pub writer-none : r ≡ writerAt i (m .writers) → r ≡ Nothing → Missing (opens i) (writersOf m)
+  writer-none a e = missing (opens i) (writersOf m) (said (writer-found a) e)
 
   pub reader-none : r ≡ readerAt i (m .readers) → r ≡ Nothing → Missing (hasTicket i) (readersOf m)
   unfolding readerAt
-  reader-none a e = missing (hasTicket i) (m .readers .at) (m .readers .count) (said a e)
+  reader-none a e = missing (hasTicket i) (readersOf m) (said a e)
 
   module _ {vs : List Val} (g : Is (row manager-type.the-type) m vs) {j : ℕ} where
+    -- a record, with its row of the table
     pub writer-stands : r ≡ writerAt i (m .writers) → r ≡ At j
-      → Stands (opens i) (m .writers .at) (m .writers .count) writersMax pastRw j
-    unfolding writerAt
+      → Stands (opens i) (writersOf m) (m .writers .count) writersMax
+        (view (part (depsMax * j) depsMax (m .deps)) (getD (m .writers .at) j noRw)) j
     writer-stands a e =
-      stands (opens i) (m .writers .at) (m .writers .count) writersMax pastRw j (manager-writers-32 m vs g) (said a e)
+      stands (opens i) (writersOf m) (m .writers .count) writersMax noWriter _ j
+        (writers-length m ∙ ap (λ n. min (m .writers .count) n) (manager-writers-32 m vs g)) (said (writer-found a) e)
+        (λ h. let l = writers-length m in let w = length-take (m .writers .count) (m .writers .at) in
+          views-at (m .deps) (recordsOf m) j (omega arith)
+          ∙ ap (view (part (depsMax * j) depsMax (m .deps)))
+            (getD-take (m .writers .count) (m .writers .at) j noRw (omega arith)))
 
     pub reader-stands : r ≡ readerAt i (m .readers) → r ≡ At j
-      → Stands (hasTicket i) (m .readers .at) (m .readers .count) readersMax noRo j
+      → Stands (hasTicket i) (readersOf m) (m .readers .count) readersMax (getD (m .readers .at) j noRo) j
     unfolding readerAt
-    reader-stands a e =
-      stands (hasTicket i) (m .readers .at) (m .readers .count) readersMax noRo j (manager-readers-32 m vs g) (said a e)
+    reader-stands a e = let w = length-take (m .readers .count) (m .readers .at) in
+      stands (hasTicket i) (readersOf m) (m .readers .count) readersMax noRo _ j
+        (w ∙ ap (λ n. min (m .readers .count) n) (manager-readers-32 m vs g)) (said a e)
+        (λ h. getD-take (m .readers .count) (m .readers .at) j noRo (omega arith))

@@ -1,50 +1,63 @@
 -- Soundness; the value 0, which the greatest target answers; the range, and what blocks.
 -- Assumes nothing.
-use mathlib.Core.Path.{_∙_}
+use mathlib.Core.Path.{_≡_}
+use mathlib.Core.Bool.{_&&_}
 use borrow.Author.Needs.{needs}
-use borrow.Author.Tests.{eq-eqb, le-leb}
+use borrow.Author.Tests.{eq-eqb, ne-eqb, le-leb}
 use Rattle.lists.proofs.Laws.Bools.{and-right}
-use Rattle.lists.proofs.Laws.Branches.{tests, said, said-yes, said-no}
-use Rattle.rules.specs.Safe.{targetOf, advancedManager}
+use Rattle.lists.proofs.Laws.Branches.{tests, said}
+use Rattle.rules.specs.Safe.{blocked, targetOf, advancedManager}
 use Rattle.rules.specs.Calls.{advanceLseAnswer}
 use Rattle.rules.specs.WellFormed.{managerOk}
 use Rattle.rules.proofs.Laws.Safe.{target-greatest}
+use Rattle.txn.proofs.Laws.Records.{parts-sound-is}
 use Rattle.txn_safe.proofs.advance_lse.Statement.{statement}
 use Rattle.txn_safe.proofs.advance_lse.Tie as tie
 
-returns-2 : tie.Need-returns-2
+abbrev start : tie.After-parts-sound → tie.Start
+start p = p .before .before .before .before .before .before .before
+
+sound : (p : tie.After-parts-sound) → let a = start p .args in
+    p .parts-sound .result ≡ (a .rest && managerOk (a .m))
+sound p = let s = start p in parts-sound-is (s .args .m) (s .args .rest) (s .good .0) (p .parts-sound .ensures)
+
+returns : tie.Need-returns
 unfolding advanceLseAnswer advancedManager targetOf
-returns-2 c =
-    let z = c .before .before in let k = z .before in let s = k .before .before .args in
-    let sound = said-yes (k .before .is-sound .ensures) (k .if1 .left) in
-    let g = target-greatest (s .m) (and-right (s .rest) (managerOk (s .m)) sound) in
-    c .moved-to .ensures
-      ∙ rw (c .before .greatest .ensures, sound, eq-eqb _ _ (z .if2 .taken), le-leb _ _ (g .low),
-      le-leb _ _ (g .high), g .free)
+returns c =
+    let g = c .before in let z = g .before .before .before .before .before .before .before in
+    let t = z .before in let s = start (t .before) .args in
+    let yes = said (sound (t .before)) (t .if1 .taken) in
+    let w = target-greatest (s .m) (and-right (s .rest) (managerOk (s .m)) yes) in
+    rw (g .greatest .ensures, yes, eq-eqb _ _ (z .if2 .taken), le-leb _ _ (w .low), le-leb _ _ (w .high), w .free)
+
+returns-4 : tie.Need-returns-4
+unfolding advanceLseAnswer advancedManager targetOf blocked
+returns-4 c =
+    let b = c .before in let e = b .before .before .before .before .before .before in
+    let t = e .before .before .before in
+    rw (said (sound (t .before)) (t .if1 .taken), ne-eqb _ _ (e .before .before .if2 .left),
+      le-leb _ _ (e .before .if3 .left), le-leb _ _ (e .if4 .left), said (b .is-blocked .ensures) (c .if5 .taken))
+
+returns-5 : tie.Need-returns-5
+unfolding advanceLseAnswer advancedManager targetOf blocked
+returns-5 c =
+    let b = c .before .before in let e = b .before .before .before .before .before .before in
+    let t = e .before .before .before in
+    rw (said (sound (t .before)) (t .if1 .taken), ne-eqb _ _ (e .before .before .if2 .left),
+      le-leb _ _ (e .before .if3 .left), le-leb _ _ (e .if4 .left),
+      said (b .is-blocked .ensures) (c .before .if5 .left))
 
 pub advance-lse-spec : {M : Type 1} → statement M
-unfolding advanceLseAnswer advancedManager targetOf
+unfolding advanceLseAnswer advancedManager targetOf blocked
 advance-lse-spec =
     tie.close
     (tie.spec
     (λ c κs. search needs)
     (λ c κs. search needs)
-    (λ c. c .refused .ensures ∙ rw (said-no (c .before .before .is-sound .ensures) (c .before .if1 .taken)))
     (λ c κs. search needs)
-    (λ c κs. search needs)
-    returns-2
-    (λ c κs. search needs)
-    (λ c. let k = c .before .before .before .before in
-      c .refused2 .ensures ∙ search (tests, said-yes (k .before .is-sound .ensures) (k .if1 .left)))
-    (λ c κs. search needs)
-    (λ c. let k = c .before .before .before .before .before .before in
-      c .refused3 .ensures ∙ search (tests, said-yes (k .before .is-sound .ensures) (k .if1 .left)))
-    (λ c κs. search needs)
-    (λ c κs. search needs)
-    (λ c. let b = c .before in let k = b .before .before .before .before .before .before .before in
-      c .refused4 .ensures ∙ search (tests, said-yes (k .before .is-sound .ensures) (k .if1 .left),
-        said (b .before .is-blocked .ensures) (b .if5 .taken)))
-    (λ c κs. search needs)
-    (λ c. let b = c .before in let k = b .before .before .before .before .before .before .before in
-      c .moved-to2 .ensures ∙ search (tests, said-yes (k .before .is-sound .ensures) (k .if1 .left),
-        said (b .before .is-blocked .ensures) (b .if5 .left))))
+    returns
+    (λ c. let t = c .before .before in search (tests, said (sound (t .before)) (t .if1 .taken)))
+    (λ c. let t = c .before .before .before in search (tests, said (sound (t .before)) (t .if1 .taken)))
+    returns-4
+    returns-5
+    (λ c. rw (said (sound (c .before)) (c .if1 .left))))

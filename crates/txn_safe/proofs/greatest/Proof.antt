@@ -3,11 +3,12 @@
 use mathlib.Core.Path.{sym}
 use mathlib.Core.List.{map}
 use borrow.Author.Needs.{needs}
+use lib.ListN.{take}
 use Rattle.lists.specs.Lists.{gather}
 use Rattle.lists.proofs.Laws.Lowest.{lowest-back}
-use Rattle.rules.specs.Manager.{writersOf, readersOf}
 use Rattle.rules.specs.Safe.{greatestTarget}
 use Rattle.rules.specs.declared.RoTxn.{RoTxn}
+use Rattle.txn.specs.Records.{viewed}
 use Rattle.txn_safe.specs.Safe.{underDeps}
 use Rattle.txn_safe.proofs.greatest.Statement.{statement}
 use Rattle.txn_safe.proofs.greatest.Tie as tie
@@ -19,7 +20,7 @@ greatest-spec =
     (tie.spec
     (λ c κs. search needs)
     (λ c κs. search needs)
-    (λ c. let m = c .before .before .args .m in
+    (λ c. let a = c .before .before .before .args in
       rw (c .under-readers .ensures, c .before .under-writers .ensures)
-        (sym (lowest-back (m .clock .lce) (map (λ (p : RoTxn). p .epoch) (readersOf m))
-          (gather underDeps (writersOf m))))))
+        (sym (lowest-back (a .c .lce) (map (λ (p : RoTxn). p .epoch) (take (a .ps .count) (a .ps .at)))
+          (gather underDeps (viewed (a .ts) (a .deps .now)))))))

@@ -2,12 +2,10 @@
 -- Assumes nothing.
 use borrow.Author.Needs.{needs}
 use Rattle.lists.proofs.Laws.Branches.{said}
-use Rattle.rules.specs.Safe.{blocked}
 use Rattle.txn_safe.proofs.is_blocked.Statement.{statement}
 use Rattle.txn_safe.proofs.is_blocked.Tie as tie
 
 pub is-blocked-spec : {M : Type 1} → statement M
-unfolding blocked
 is-blocked-spec =
     tie.close
     (tie.spec

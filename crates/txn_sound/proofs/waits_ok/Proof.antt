@@ -11,6 +11,5 @@ waits-ok-spec =
     (tie.spec
     (λ c. search tests)
     (λ c. search tests)
-    (λ c. search (tests, not-true (c .before .before .before .before .before .args .seen) (c .if3 .taken)))
-    (λ c. let k = c .before in
-      search (tests, not-false (k .before .before .before .before .before .args .seen) (k .if3 .left))))
+    (λ c. search (tests, not-true (c .before .before .before .args .seen) (c .if3 .taken)))
+    (λ c. search (tests, not-false (c .before .before .before .args .seen) (c .if3 .left))))

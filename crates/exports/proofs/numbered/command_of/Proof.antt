@@ -19,8 +19,10 @@ command-of-spec =
     (λ c. rw (c .match .keys9))
     (λ c. rw (c .match .keys10))
     (λ c. rw (c .match .keys11))
+    (λ c. rw (c .match .keys12))
     (λ c. let k = c .before .args .kind in let r = c .match .rest in
-      rw (ne-eqb k 0 (r .0 .0 .0 .0 .0 .0 .0 .0 .0 .0 .1), ne-eqb k 1 (r .0 .0 .0 .0 .0 .0 .0 .0 .0 .1),
-        ne-eqb k 2 (r .0 .0 .0 .0 .0 .0 .0 .0 .1), ne-eqb k 3 (r .0 .0 .0 .0 .0 .0 .0 .1),
-        ne-eqb k 4 (r .0 .0 .0 .0 .0 .0 .1), ne-eqb k 5 (r .0 .0 .0 .0 .0 .1), ne-eqb k 6 (r .0 .0 .0 .0 .1),
-        ne-eqb k 7 (r .0 .0 .0 .1), ne-eqb k 8 (r .0 .0 .1), ne-eqb k 9 (r .0 .1), ne-eqb k 10 (r .1))))
+      rw (ne-eqb k 0 (r .0 .0 .0 .0 .0 .0 .0 .0 .0 .0 .0 .1), ne-eqb k 1 (r .0 .0 .0 .0 .0 .0 .0 .0 .0 .0 .1),
+        ne-eqb k 2 (r .0 .0 .0 .0 .0 .0 .0 .0 .0 .1), ne-eqb k 3 (r .0 .0 .0 .0 .0 .0 .0 .0 .1),
+        ne-eqb k 4 (r .0 .0 .0 .0 .0 .0 .0 .1), ne-eqb k 5 (r .0 .0 .0 .0 .0 .0 .1), ne-eqb k 6 (r .0 .0 .0 .0 .0 .1),
+        ne-eqb k 7 (r .0 .0 .0 .0 .1), ne-eqb k 8 (r .0 .0 .0 .1), ne-eqb k 9 (r .0 .0 .1), ne-eqb k 10 (r .0 .1),
+        ne-eqb k 11 (r .1))))

@@ -30,31 +30,19 @@ returns-3 c = c .append-at .ensures
     ∙ sym (appendPlan-first _ _ _ _ (passed (c .before .before .before)) (c .before .before .if2 .left)
       (c .before .if3 .taken))
 
-mul-last : tie.Need-mul-last
-mul-last c = let w = within _ (passed (c .before .before)) in omega arith
-
-add-last : tie.Need-add-last
-add-last c = let w = within _ (passed (c .before .before)) in omega arith
-
-mul-last-2 : tie.Need-mul-last-2
-mul-last-2 c = let w = within _ (passed (c .before .before)) in omega arith
-
-element-copy-out-last : tie.Need-element-copy-out-last
-element-copy-out-last c = let w = within _ (passed (c .before .before)) in omega arith
-
 append-at-requires-2 : tie.Need-append-at-requires-2
-append-at-requires-2 c κs = let w = within _ (passed (c .before .before .before .before .before)) in omega arith
+append-at-requires-2 c κs = let w = within _ (passed (c .before .before .before .before)) in omega arith
 
 returns-4 : tie.Need-returns-4
-returns-4 c = let a = c .before .before .before .before in c .append-at2 .ensures
+returns-4 c = let a = c .before .before .before in c .append-at2 .ensures
     ∙ sym (appendPlan-grows _ _ _ _ (passed (a .before .before)) (a .before .if2 .left) (a .if3 .left)
       (sym (c .before .before .does-grow .ensures) ∙ c .before .if4 .taken))
 
 append-at-requires-3 : tie.Need-append-at-requires-3
-append-at-requires-3 c κs = let w = within _ (passed (c .before .before .before .before .before)) in omega arith
+append-at-requires-3 c κs = let w = within _ (passed (c .before .before .before .before)) in omega arith
 
 returns-5 : tie.Need-returns-5
-returns-5 c = let a = c .before .before .before .before in c .append-at3 .ensures
+returns-5 c = let a = c .before .before .before in c .append-at3 .ensures
     ∙ sym (appendPlan-adds _ _ _ _ (passed (a .before .before)) (a .before .if2 .left) (a .if3 .left)
       (sym (c .before .before .does-grow .ensures) ∙ c .before .if4 .left))
 
@@ -69,11 +57,6 @@ append-plan-spec =
     returns-2
     append-at-requires
     returns-3
-    mul-last
-    (λ c. omega arith)
-    add-last
-    mul-last-2
-    element-copy-out-last
     (λ c κs. search needs)
     (λ c. omega arith)
     append-at-requires-2

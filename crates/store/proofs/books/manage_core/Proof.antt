@@ -10,7 +10,6 @@ pub manage-core-spec : {M : Type 1} → statement M
 manage-core-spec =
     tie.close
     (tie.spec
-    (λ c κs. search needs)
     (λ c. search needs)
     (λ c κs. search needs)
     (λ c κs. search needs)
@@ -27,12 +26,12 @@ manage-core-spec =
     (λ c κs. search needs)
     (λ c κs. search needs)
     (λ c. let b = c .before in let e = b .before in
-      c .kept .ensures ∙ rw (b .begin .ensures, e .enum-told .given .1, e .before .before .rest-ok .ensures))
+      c .kept .ensures ∙ rw (b .begin .ensures, e .enum-told .given .1))
     (λ c. let b = c .before in let e = b .before .before in
-      c .kept2 .ensures ∙ rw (b .close-txn .ensures, e .call .given .1, e .before .before .rest-ok .ensures))
+      c .kept2 .ensures ∙ rw (b .close-txn .ensures, e .call .given .1))
     (λ c. let b = c .before in let e = b .before .before in
-      c .kept3 .ensures ∙ rw (b .begin-ro .ensures, e .call2 .given .1, e .before .before .rest-ok .ensures))
+      c .kept3 .ensures ∙ rw (b .begin-ro .ensures, e .call2 .given .1))
     (λ c. let b = c .before in let e = b .before .before in
-      c .kept4 .ensures ∙ rw (b .end-ro .ensures, e .call3 .given .1, e .before .before .rest-ok .ensures))
+      c .kept4 .ensures ∙ rw (b .end-ro .ensures, e .call3 .given .1))
     (λ c. let b = c .before in let e = b .before .before in
-      c .kept5 .ensures ∙ rw (b .advance-lse .ensures, e .call4 .given .1, e .before .before .rest-ok .ensures)))
+      c .kept5 .ensures ∙ rw (b .advance-lse .ensures, e .call4 .given .1)))

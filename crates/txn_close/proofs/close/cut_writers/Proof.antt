@@ -7,7 +7,7 @@ use Prim.Native.Nat.{_-_}
 use native.Mathlib.Omega.{arith}
 use Rattle.rules.specs.Limits.{writersMax}
 use Rattle.rules.specs.Manager.{noRw}
-use Rattle.txn_find.proofs.Laws.Places.{writers-32, pastRw}
+use Rattle.txn_find.proofs.Laws.Places.{writers-32}
 use Rattle.txn.proofs.Laws.Cut.{Cutting, cutting-start, cutting-move, cutting-clear, cutting-end}
 use Rattle.txn_close.proofs.close.cut_writers.Statement.{statement}
 use Rattle.txn_close.proofs.close.cut_writers.Tie as tie
@@ -20,14 +20,14 @@ abbrev μ-loop : tie.MeasureT-loop
 
 loop-holds : tie.Need-loop-holds Inv-loop μ-loop
 loop-holds c = let s = c .before .before in let p = s .pre .0 in
-    cutting-start pastRw (writers-32 (s .args .ts) _ (s .good .0)) (p .2) (p .0) (p .1) (s .pre .1)
+    cutting-start noRw (writers-32 (s .args .ts) _ (s .good .0)) (p .2) (p .0) (p .1) (s .pre .1)
 
 loop-again : tie.Need-loop-again Inv-loop μ-loop
 loop-again c = let l = c .before .before in
     ⊎-elim
-    (λ w. rw (w .2) (cutting-move pastRw (l .loop .inv) (w .0 .taken)))
+    (λ w. rw (w .2) (cutting-move noRw (l .loop .inv) (w .0 .taken)))
     (λ w. rw (w .1, l .before .before .no-rw .ensures)
-      (cutting-clear pastRw (l .loop .inv) (w .0 .left) (omega arith)))
+      (cutting-clear noRw (l .loop .inv) (w .0 .left) (omega arith)))
     (c .if1 .came)
 
 pub cut-writers-spec : {M : Type 1} → statement M
@@ -50,4 +50,4 @@ cut-writers-spec =
     (λ c. omega arith)
     loop-again
     (λ c. omega arith)
-    (λ c. let e = cutting-end pastRw (c .before .loop .inv) (omega arith) in rw (e .0, e .1)))
+    (λ c. cutting-end noRw (c .before .loop .inv) (omega arith)))

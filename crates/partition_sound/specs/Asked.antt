@@ -1,0 +1,48 @@
+-- What the test of the lots asks of the books, and that test over the lent entries. 01 "Refusals that come from the
+-- state", *sound*.
+-- In order: numbers between two others, LCE raised, what is asked, the lengths, the test.
+-- Laws: proofs/Laws/Asked.antt (of what is asked of a manager it is restOk, and that is rules').
+-- Assumes nothing.
+use mathlib.Core.Bool.{Bool, _&&_, cond}
+use mathlib.Core.List.{List, [], _∷_}
+use Prim.Native.Nat.{ℕ, suc, _*_}
+use lib.ListN.{length, take}
+use lib.Dec.{eqb}
+use Rattle.lists.specs.Lists.{allOf, pad}
+use Rattle.rules.specs.Limits.{writersMax, rowsMax, entriesMax, areasMax}
+use Rattle.rules.specs.WellFormed.{areasOk}
+use Rattle.rules.specs.declared.Clock.{Clock}
+use Rattle.rules.specs.declared.Entry.{Entry}
+use Rattle.rules.specs.declared.Partitions.{Partitions}
+use Rattle.rules.specs.declared.RwTxns.{RwTxns}
+use Rattle.rules.specs.declared.State.{State}
+use Rattle.partition_sound.specs.Sound.{epochsOf, partitionOkBy, partitionsOk}
+use Rattle.partition_sound.specs.declared.Asked.{Asked}
+
+-- xs are the numbers between lo and hi
+unfoldable pub fills : ℕ → ℕ → List ℕ → Bool
+fills lo hi [] = eqb (suc lo) hi
+fills lo hi (x ∷ xs) = eqb (suc lo) x && fills x hi xs
+
+-- where each epoch between LCE and EC has a record, no epoch need be looked up
+unfoldable pub raised : Clock → List ℕ → Clock
+raised c js = cond (fills (c .lce) (c .ec) js) (record { ec = c .ec; lce = c .ec; lse = c .lse }) c
+
+abbrev pub askedOf : Clock → RwTxns → Partitions → Asked
+askedOf c ts ps = record {
+  clock = raised c (epochsOf ts); epochs = pad writersMax 0 (epochsOf ts); count = length (epochsOf ts);
+  partitions = ps }
+
+-- m rows and n entries are lent
+unfoldable pub lengthsAre : ℕ → ℕ → Bool
+lengthsAre n m = eqb m (rowsMax * areasMax) && eqb n (entriesMax * areasMax)
+
+-- *sound* but for the manager: es are the entries, n of which are lent, beside m rows
+unfoldable pub restOk : State → List Entry → ℕ → ℕ → Bool
+restOk s es n m = lengthsAre n m && partitionsOk (s .manager) es (s .partitions)
+
+-- the same from what is asked
+unfoldable pub restAsked : List Entry → ℕ → Asked → Bool
+restAsked es m a =
+    lengthsAre (length es) m && areasOk (a .partitions)
+    && allOf (partitionOkBy (a .clock) (take (a .count) (a .epochs)) es) (a .partitions .at)
