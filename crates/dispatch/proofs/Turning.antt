@@ -32,7 +32,7 @@ use Rattle.rules.specs.declared.Command.{Command}
 use Rattle.rules.specs.declared.Entry.{Entry}
 use Rattle.rules.specs.declared.State.{State}
 use Rattle.store.specs.Kept.{storeOf}
-use Rattle.store.specs.declared.Kept.{Kept}
+use Rattle.rules.specs.declared.Kept.{Kept}
 use Rattle.dispatch.specs.Dispatch.{Did}
 use Rattle.rules.proofs.Command as Cm
 use Rattle.rules.proofs.Command.Laws as Cm′

@@ -9,7 +9,7 @@ use Rattle.rules.specs.declared.Command.{Command}
 use Rattle.rules.specs.declared.Entry.{Entry}
 use Rattle.rules.specs.declared.Reader.{Reader}
 use Rattle.store.specs.Kept.{Left}
-use Rattle.store.specs.declared.Kept.{Kept}
+use Rattle.rules.specs.declared.Kept.{Kept}
 use Rattle.dispatch.specs.declared.Turned.{Turned}
 
 -- the lent bitmap after a command: a scan's is step's, and no other call writes it

@@ -8,10 +8,10 @@ use lent::Table;
 use rules::Answer;
 use rules::Command;
 use rules::Entry;
+use rules::Kept;
 use rules::Reader;
 use rules::State;
 use rules::limits::ENTRIES_LENT;
-use store::Kept;
 
 // What a call answers, the books and the entries after it.
 pub struct Turned {

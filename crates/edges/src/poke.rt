@@ -2,7 +2,6 @@
 use lent::Table;
 use rules::Clock;
 use rules::Entry;
-use rules::Manager;
 use rules::Partition;
 use rules::Partitions;
 use rules::RoTxn;
@@ -127,8 +126,9 @@ fn readers(r: RoTxns, field: u64, value: u64) -> RoTxns {
     ps
 }
 
-fn manager(m: Manager, field: u64, value: u64) -> Manager {
-    let mut n = m;
+// A word of the transaction manager.
+fn manager(state: State, field: u64, value: u64) -> State {
+    let mut n = state;
     if field < 3 {
         let c = clock(n.clock, field, value);
         n.clock = c;
@@ -240,10 +240,9 @@ pub(crate) fn poke(state: State, table: Table, field: u64, value: u64) -> Poked 
         };
     }
     if field < 10 {
-        let m = manager(s.manager, field, value);
-        s.manager = m;
+        let m = manager(s, field, value);
         return Poked {
-            state: s,
+            state: m,
             table: table,
         };
     }
@@ -255,10 +254,9 @@ pub(crate) fn poke(state: State, table: Table, field: u64, value: u64) -> Poked 
             table: table,
         };
     }
-    let m = manager(s.manager, field, value);
-    s.manager = m;
+    let m = manager(s, field, value);
     Poked {
-        state: s,
+        state: m,
         table: table,
     }
 }

@@ -22,7 +22,7 @@ use Rattle.rules.specs.declared.Entry.{Entry}
 use Rattle.rules.specs.declared.Partitions.{Partitions}
 use Rattle.area.specs.Area.{baseOf}
 use Rattle.store.specs.Kept.{storeOf}
-use Rattle.store.specs.declared.Kept.{Kept}
+use Rattle.rules.specs.declared.Kept.{Kept}
 use Rattle.dispatch.specs.Dispatch.{bitmapLeft}
 use Rattle.exports.specs.declared.numbered.Numbers.{Numbers}
 use Rattle.exports.specs.declared.numbered.Place.{Place}

@@ -3,12 +3,12 @@ use area::row_base;
 use reply::reply_of;
 use rules::Answer;
 use rules::Command;
+use rules::Kept;
 use rules::ManagerCall;
 use rules::Partitions;
 use rules::Reader;
 use rules::State;
 use rules::limits::PARTITIONS_MAX;
-use store::Kept;
 ghost use mathlib.Core.Path.{_≡_};
 ghost use Rattle.exports.specs.Numbered.{commandOf, placeIn, placeOf, numbersOf, repliedOf};
 

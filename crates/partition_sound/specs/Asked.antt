@@ -9,6 +9,7 @@ use Prim.Native.Nat.{ℕ, suc, _*_}
 use lib.ListN.{length, take}
 use lib.Dec.{eqb}
 use Rattle.lists.specs.Lists.{allOf, pad}
+use Rattle.rules.specs.Manager.{managerIn}
 use Rattle.rules.specs.Limits.{writersMax, rowsMax, entriesMax, areasMax}
 use Rattle.rules.specs.WellFormed.{areasOk}
 use Rattle.rules.specs.declared.Clock.{Clock}
@@ -39,7 +40,7 @@ lengthsAre n m = eqb m (rowsMax * areasMax) && eqb n (entriesMax * areasMax)
 
 -- *sound* but for the manager: es are the entries, n of which are lent, beside m rows
 unfoldable pub restOk : State → List Entry → ℕ → ℕ → Bool
-restOk s es n m = lengthsAre n m && partitionsOk (s .manager) es (s .partitions)
+restOk s es n m = lengthsAre n m && partitionsOk (managerIn s) es (s .partitions)
 
 -- the same from what is asked
 unfoldable pub restAsked : List Entry → ℕ → Asked → Bool

@@ -13,7 +13,7 @@ use Rattle.rules.specs.Limits.{writersMax, rowsMax, entriesMax}
 use Rattle.rules.specs.WellFormed.{areasOk, endsOk, alike, apart, partitionOk}
 use Rattle.rules.specs.declared.Clock.{Clock}
 use Rattle.rules.specs.declared.Entry.{Entry}
-use Rattle.rules.specs.declared.Manager.{Manager}
+use Rattle.rules.specs.Manager.{Manager}
 use Rattle.rules.specs.declared.Partition.{Partition}
 use Rattle.rules.specs.declared.Partitions.{Partitions}
 use Rattle.rules.specs.declared.RwTxns.{RwTxns}

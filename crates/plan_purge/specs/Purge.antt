@@ -6,6 +6,7 @@ use mathlib.Core.List.{List}
 use Prim.Native.Nat.{ℕ, _+_, _*_}
 use lib.ListN.{replicate}
 use lib.Dec.{ltb}
+use Rattle.rules.specs.Manager.{managerIn}
 use Rattle.rules.specs.Limits.{partitionsMax, areasMax, rowsMax, entriesMax}
 use Rattle.rules.specs.Rewrite.{skips}
 use Rattle.rules.specs.WellFormed.{managerOk}
@@ -53,8 +54,8 @@ purgeAt a n m spare l p q =
 unfoldable pub purgePlan : State → Bool → Area → ℕ → ℕ → ℕ → Purge
 purgePlan s rest a n m p =
     byAdmission (λ why. unwrittenPurge n m (Refused why))
-    (purgeAt a n m (s .partitions .spare) (s .manager .clock .lse) p)
-    (admitted (rest && managerOk (s .manager)) (s .partitions) p)
+    (purgeAt a n m (s .partitions .spare) (s .clock .lse) p)
+    (admitted (rest && managerOk (managerIn s)) (s .partitions) p)
 
 -- ---- the entries that are written, and where
 

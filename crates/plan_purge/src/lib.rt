@@ -98,13 +98,7 @@ fn purge_at(a: Area, n: usize, m: usize, spare: usize, l: u64, p: usize, q: Part
 pub fn purge_core(state: State, rest: bool, a: Area, n: usize, m: usize, p: u64) -> Purge
     ensures { λ r. ⌜ r ≡ purgePlan state rest a n m p ⌝ }
 {
-    let sound = parts_sound(
-        rest,
-        state.manager.clock,
-        state.manager.writers,
-        &state.manager.deps,
-        state.manager.readers,
-    );
+    let sound = parts_sound(rest, state.clock, state.writers, &state.deps, state.readers);
     let admitted = admit(sound, state.partitions, p);
     match admitted {
         Admitted::Not(why) => unwritten(n, m, Answer::Refused(why)),
@@ -113,7 +107,7 @@ pub fn purge_core(state: State, rest: bool, a: Area, n: usize, m: usize, p: u64)
             n,
             m,
             state.partitions.spare,
-            state.manager.clock.lse,
+            state.clock.lse,
             p as usize,
             q,
         ),

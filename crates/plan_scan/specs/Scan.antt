@@ -7,14 +7,14 @@ use mathlib.Core.List.{List, _++_}
 use Prim.Native.Nat.{ℕ, _/_}
 use lib.ListN.{length, take, drop, replicate}
 use lib.Dec.{ltb, leb}
-use Rattle.rules.specs.Manager.{hasOpen, depsAt, hasReader, epochAt}
+use Rattle.rules.specs.Manager.{hasOpen, depsAt, hasReader, epochAt, managerIn}
 use Rattle.rules.specs.Limits.{rowsMax}
 use Rattle.rules.specs.Bitmap.{bytesFor}
 use Rattle.rules.specs.WellFormed.{managerOk}
 use Rattle.rules.specs.declared.Answer.the-variants.{Scanned, Refused}
 use Rattle.rules.specs.declared.Refusal.{Refusal}
 use Rattle.rules.specs.declared.Refusal.the-variants.{NotOpen, ShortBitmap}
-use Rattle.rules.specs.declared.Manager.{Manager}
+use Rattle.rules.specs.Manager.{Manager}
 use Rattle.rules.specs.declared.Partition.{Partition}
 use Rattle.rules.specs.declared.State.{State}
 use Rattle.visible.specs.declared.View.{View}
@@ -53,13 +53,13 @@ roView i m = pageView (epochAt i m)
 abbrev pub lookBy : Bool → View → State → Bool → Area → ℕ → ℕ → Look
 lookBy isOpen v s rest a k p =
     byAdmission refusedLook (λ q. cond isOpen (lookAt a q v k) (refusedLook NotOpen))
-    (admitted (rest && managerOk (s .manager)) (s .partitions) p)
+    (admitted (rest && managerOk (managerIn s)) (s .partitions) p)
 
 unfoldable pub rwLook : State → Bool → Area → ℕ → ℕ → ℕ → Look
-rwLook s rest a k i p = lookBy (hasOpen i (s .manager)) (rwView i (s .manager)) s rest a k p
+rwLook s rest a k i p = lookBy (hasOpen i (managerIn s)) (rwView i (managerIn s)) s rest a k p
 
 unfoldable pub roLook : State → Bool → Area → ℕ → ℕ → ℕ → Look
-roLook s rest a k i p = lookBy (hasReader i (s .manager)) (roView i (s .manager)) s rest a k p
+roLook s rest a k i p = lookBy (hasReader i (managerIn s)) (roView i (managerIn s)) s rest a k p
 
 -- the first n of the bytes over those lent, where so many are
 unfoldable pub copied : ℕ → List ℕ → List ℕ → List ℕ

@@ -83,23 +83,17 @@ fn in_places(row: &[u64]) -> Deps
 pub fn rw_core(state: State, rest: bool, a: Area, k: usize, i: u64, p: u64) -> Look
     ensures { λ r. ⌜ r ≡ rwLook state rest a k i p ⌝ }
 {
-    let sound = parts_sound(
-        rest,
-        state.manager.clock,
-        state.manager.writers,
-        &state.manager.deps,
-        state.manager.readers,
-    );
+    let sound = parts_sound(rest, state.clock, state.writers, &state.deps, state.readers);
     let admitted = admit(sound, state.partitions, p);
     match admitted {
         Admitted::Not(why) => refused(why),
         Admitted::To(q) => {
-            let writers = state.manager.writers;
+            let writers = state.writers;
             let Found::At(j) = find_writer(writers, i) else {
                 return refused(Refusal::NotOpen);
             };
             let n = writers.at[j].deps;
-            let deps = in_places(row_of(&state.manager.deps, j, n));
+            let deps = in_places(row_of(&state.deps, j, n));
             let v = View {
                 epoch: i,
                 rw: 1,
@@ -114,18 +108,12 @@ pub fn rw_core(state: State, rest: bool, a: Area, k: usize, i: u64, p: u64) -> L
 pub fn ro_core(state: State, rest: bool, a: Area, k: usize, i: u64, p: u64) -> Look
     ensures { λ r. ⌜ r ≡ roLook state rest a k i p ⌝ }
 {
-    let sound = parts_sound(
-        rest,
-        state.manager.clock,
-        state.manager.writers,
-        &state.manager.deps,
-        state.manager.readers,
-    );
+    let sound = parts_sound(rest, state.clock, state.writers, &state.deps, state.readers);
     let admitted = admit(sound, state.partitions, p);
     match admitted {
         Admitted::Not(why) => refused(why),
         Admitted::To(q) => {
-            let readers = state.manager.readers;
+            let readers = state.readers;
             let Found::At(j) = find_reader(readers, i) else {
                 return refused(Refusal::NotOpen);
             };

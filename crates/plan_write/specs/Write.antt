@@ -7,7 +7,7 @@ use Prim.Native.Nat.{ℕ}
 use lib.ListN.{set}
 use lib.Dec.{eqb}
 use Rattle.rules.specs.Limits.{partitionsMax}
-use Rattle.rules.specs.Manager.{hasOpen}
+use Rattle.rules.specs.Manager.{hasOpen, managerIn}
 use Rattle.rules.specs.Store.{noPartition}
 use Rattle.rules.specs.WellFormed.{managerOk}
 use Rattle.rules.specs.declared.Answer.{Answer}
@@ -53,9 +53,9 @@ appendAt last n m k i p q =
 -- 01's order: 5, 1, 2, 8, 9
 unfoldable pub appendWrite : State → Bool → Entry → ℕ → ℕ → ℕ → ℕ → ℕ → Write
 appendWrite s rest last n m k i p =
-    byAdmission (refusedWrite n m) (λ q. cond (hasOpen i (s .manager)) (appendAt last n m k i p q)
+    byAdmission (refusedWrite n m) (λ q. cond (hasOpen i (managerIn s)) (appendAt last n m k i p q)
     (refusedWrite n m NotOpen))
-    (admitted (rest && managerOk (s .manager)) (s .partitions) p)
+    (admitted (rest && managerOk (managerIn s)) (s .partitions) p)
 
 -- partition p, which is q: 9
 abbrev pub clearAt : ℕ → ℕ → ℕ → ℕ → Partition → Write
@@ -67,9 +67,9 @@ clearAt n m i p q =
 -- 01's order: 5, 1, 2, 9
 unfoldable pub clearWrite : State → Bool → ℕ → ℕ → ℕ → ℕ → Write
 clearWrite s rest n m i p =
-    byAdmission (refusedWrite n m) (λ q. cond (hasOpen i (s .manager)) (clearAt n m i p q)
+    byAdmission (refusedWrite n m) (λ q. cond (hasOpen i (managerIn s)) (clearAt n m i p q)
     (refusedWrite n m NotOpen))
-    (admitted (rest && managerOk (s .manager)) (s .partitions) p)
+    (admitted (rest && managerOk (managerIn s)) (s .partitions) p)
 
 -- ---- the entries that are written: the new one, then the end that moves
 abbrev pub entriesWritten : List Entry → Write → List Entry

@@ -119,18 +119,12 @@ pub fn append_core(
 ) -> Write
     ensures { λ r. ⌜ r ≡ appendWrite state rest last n m k i p ⌝ }
 {
-    let sound = parts_sound(
-        rest,
-        state.manager.clock,
-        state.manager.writers,
-        &state.manager.deps,
-        state.manager.readers,
-    );
+    let sound = parts_sound(rest, state.clock, state.writers, &state.deps, state.readers);
     let admitted = admit(sound, state.partitions, p);
     match admitted {
         Admitted::Not(why) => refused(n, m, why),
         Admitted::To(q) => {
-            let Found::At(_) = find_writer(state.manager.writers, i) else {
+            let Found::At(_) = find_writer(state.writers, i) else {
                 return refused(n, m, Refusal::NotOpen);
             };
             append_at(last, n, m, k, i, p as usize, q)
@@ -156,18 +150,12 @@ fn clear_at(n: usize, m: usize, i: u64, p: usize, q: Partition) -> Write
 pub fn clear_core(state: State, rest: bool, n: usize, m: usize, i: u64, p: u64) -> Write
     ensures { λ r. ⌜ r ≡ clearWrite state rest n m i p ⌝ }
 {
-    let sound = parts_sound(
-        rest,
-        state.manager.clock,
-        state.manager.writers,
-        &state.manager.deps,
-        state.manager.readers,
-    );
+    let sound = parts_sound(rest, state.clock, state.writers, &state.deps, state.readers);
     let admitted = admit(sound, state.partitions, p);
     match admitted {
         Admitted::Not(why) => refused(n, m, why),
         Admitted::To(q) => {
-            let Found::At(_) = find_writer(state.manager.writers, i) else {
+            let Found::At(_) = find_writer(state.writers, i) else {
                 return refused(n, m, Refusal::NotOpen);
             };
             clear_at(n, m, i, p as usize, q)

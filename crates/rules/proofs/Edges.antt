@@ -9,7 +9,7 @@ use lib.ListN.{replicate, set}
 use Rattle.lists.specs.Lists.{over}
 use Rattle.rules.specs.Limits.{lastEpoch, lastTicket}
 use Rattle.rules.specs.Manager.{readersOf, withClock, withLse, withReaders}
-use Rattle.rules.specs.Store.{Store, managerOf, withManager}
+use Rattle.rules.specs.Store.{Store, managerOf, stateOf, withManager}
 use Rattle.rules.specs.Step.{Call, create, begin, append, clear, commit, rollback, beginRo, endRo, scan}
 use Rattle.rules.specs.Step.{advanceLse, purge, run}
 use Rattle.rules.specs.declared.Reader.{Reader}
@@ -54,8 +54,8 @@ session-holds = refl
 gap : Store
 gap =
     let st = run (begin ∷ begin ∷ commit 1 ∷ beginRo 0 ∷ commit 2 ∷ []) (made 1) in record {
-      state = record { manager = managerOf st; partitions = record {
-        at = set (st .state .partitions .at) 0 (record { area = 0; rows = 3; entries = 2 }); spare = 8 } };
+      state = stateOf (managerOf st) (record {
+        at = set (st .state .partitions .at) 0 (record { area = 0; rows = 3; entries = 2 }); spare = 8 });
       rows = st .rows;
       entries = over 0 (record { epoch = 1; end = 2; mark = 0 } ∷ record { epoch = 2; end = 3; mark = 1 } ∷ []) (st
           .entries) }

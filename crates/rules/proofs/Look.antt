@@ -18,7 +18,7 @@ use Rattle.rules.specs.Hides.{hidden, flagsIn, flags}
 use Rattle.rules.specs.Rewrite.{joinedOnto, joined, hasEpoch, rolledBack, purgedIn, purged, skips}
 use Rattle.rules.specs.Bitmap.{bytesFor, byteOf, packed, bitmapAfter}
 use Rattle.rules.specs.Store.{Store, entriesAt, spansAt, laid, laidInPlace, laidInSpare, createdStore}
-use Rattle.rules.specs.Store.{rolledBackAt, rolledBackBelow, purgedStore}
+use Rattle.rules.specs.Store.{stateOf, rolledBackAt, rolledBackBelow, purgedStore}
 use Rattle.rules.specs.Answers.{replyOf, firstValue, secondValue}
 use Rattle.rules.specs.WellFormed.{clockOk, depsOk, statusOk, writersOk, readersOk, managerOk, areasOk}
 use Rattle.rules.specs.WellFormed.{epochOk, endsOk, apart, partitionOk, lengthsOk, wellFormed}
@@ -33,7 +33,7 @@ use Rattle.rules.specs.declared.Reader.{Reader}
 unfoldable pub made : ℕ → Store
 made s =
     step (create s) (record {
-      state = record { manager = createdManager 5; partitions = record { at = []; spare = 3 } };
+      state = stateOf (createdManager 5) (record { at = []; spare = 3 });
       rows = replicate (rowsMax * areasMax) 77;
       entries = replicate (entriesMax * areasMax) (record { epoch = 9; end = 9; mark = 9 }) }) .store
 

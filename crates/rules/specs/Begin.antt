@@ -5,7 +5,7 @@ use mathlib.Core.List.{List, [], _∷_, _++_}
 use Prim.Native.Nat.{ℕ, suc, _-_}
 use Rattle.rules.specs.Manager.{Writer, writer, emptyManager, writersOf, withClock, withEc, withWriters}
 use Rattle.rules.specs.Manager.{openEpochs}
-use Rattle.rules.specs.declared.Manager.{Manager}
+use Rattle.rules.specs.Manager.{Manager}
 
 -- making new at s: EC = s, LCE = LSE = s − 1, no transaction, next ticket 1
 unfoldable pub createdManager : ℕ → Manager

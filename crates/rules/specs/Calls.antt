@@ -25,7 +25,7 @@ use Rattle.rules.specs.Rewrite.{purged, skips}
 use Rattle.rules.specs.Bitmap.{bytesFor}
 use Rattle.rules.specs.Store.{Store, managerOf, partitionAt, spansAt}
 use Rattle.rules.specs.WellFormed.{wellFormed}
-use Rattle.rules.specs.declared.Manager.{Manager}
+use Rattle.rules.specs.Manager.{Manager}
 use Rattle.rules.specs.declared.Reader.{Reader}
 use Rattle.rules.specs.declared.Reader.the-variants.{Rw, Ro}
 use Rattle.rules.specs.declared.ManagerCall.{ManagerCall}

@@ -9,7 +9,7 @@ use Prim.Native.Nat.{ℕ, max}
 use lib.Dec.{ltb, leb}
 use Rattle.lists.specs.Lists.{keepIf, allOf}
 use Rattle.rules.specs.Manager.{Writer, writer, isOpen, opens, writersOf, withClock, withLce, withWriters}
-use Rattle.rules.specs.declared.Manager.{Manager}
+use Rattle.rules.specs.Manager.{Manager}
 
 -- committed, it waits: it drops its deps and keeps its place
 abbrev pub waitingTxn : ℕ → Writer

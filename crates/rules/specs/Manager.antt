@@ -1,6 +1,6 @@
 -- The transaction manager (01: the books without the lots) read as lists, and written back. 01 "The books".
--- In order: records, transactions in use, setters, an open transaction, a read-only one. The only file that writes
--- all fields of the manager and of its records out, and the only one that knows how the deps lie in their table.
+-- In order: records, the manager, transactions in use, setters, an open transaction, a read-only one. The only file that
+-- writes all fields of the manager and of its records out, and the only one that knows how the deps lie in their table.
 -- Assumes nothing.
 use mathlib.Core.Bool.{Bool, _&&_}
 use mathlib.Core.List.{List, [], _∷_, map}
@@ -14,7 +14,7 @@ use Rattle.rules.specs.declared.RwTxn.{RwTxn}
 use Rattle.rules.specs.declared.RwTxns.{RwTxns}
 use Rattle.rules.specs.declared.RoTxn.{RoTxn}
 use Rattle.rules.specs.declared.RoTxns.{RoTxns}
-use Rattle.rules.specs.declared.Manager.{Manager}
+use Rattle.rules.specs.declared.State.{State}
 
 -- ---- records, and what stands in an unused place
 
@@ -42,6 +42,21 @@ noRw = rwTxn 0 0 0
 abbrev pub noRo : RoTxn
 noRo = roTxn 0 0
 
+-- ---- the manager, and that of the books
+
+pub record Manager : Type 0 where
+  pub clock : Clock
+  pub writers : RwTxns
+  pub deps : List ℕ
+  pub readers : RoTxns
+
+-- the manager of these parts
+abbrev pub managerWith : Clock → RwTxns → List ℕ → RoTxns → Manager
+managerWith c ts ds ps = record { clock = c; writers = ts; deps = ds; readers = ps }
+
+abbrev pub managerIn : State → Manager
+managerIn s = managerWith (s .clock) (s .writers) (s .deps) (s .readers)
+
 -- no transaction yet, the next ticket 1
 abbrev pub emptyManager : Clock → Manager
 emptyManager c = record {
@@ -49,10 +64,6 @@ emptyManager c = record {
   writers = record { at = replicate writersMax noRw; count = 0 };
   deps = replicate depsAll 0;
   readers = record { at = replicate readersMax noRo; count = 0; next = 1 } }
-
--- the manager of these parts
-abbrev pub managerWith : Clock → RwTxns → List ℕ → RoTxns → Manager
-managerWith c ts ds ps = record { clock = c; writers = ts; deps = ds; readers = ps }
 
 -- ---- the places in use, as lists
 

@@ -7,7 +7,7 @@ use Prim.Native.Nat.{ℕ, suc}
 use lib.Dec.{eqb}
 use Rattle.lists.specs.Lists.{keepIf}
 use Rattle.rules.specs.Manager.{roTxn, readersOf, withReaders, hasTicket}
-use Rattle.rules.specs.declared.Manager.{Manager}
+use Rattle.rules.specs.Manager.{Manager}
 
 -- the value 0 always means LCE
 unfoldable pub snapshotEpoch : ℕ → Manager → ℕ

@@ -7,7 +7,7 @@ use Prim.Native.Nat.{ℕ, _-_, min}
 use lib.Dec.{ltb, leb, eqb}
 use Rattle.lists.specs.Lists.{gather, anyOf}
 use Rattle.rules.specs.Manager.{isOpen, writersOf, readersOf, withClock, withLse}
-use Rattle.rules.specs.declared.Manager.{Manager}
+use Rattle.rules.specs.Manager.{Manager}
 
 -- 01: held. A read-only transaction below t, or an open one with a dep at or below t, closed since or not.
 unfoldable pub blocked : ℕ → Manager → Bool

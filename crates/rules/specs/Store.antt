@@ -13,7 +13,7 @@ use Rattle.rules.specs.Begin.{createdManager}
 use Rattle.rules.specs.Span.{Span, spans, entriesOf, wordsOf}
 use Rattle.rules.specs.Rewrite.{hasEpoch, rolledBack, purged, skips}
 use Rattle.rules.specs.declared.Entry.{Entry}
-use Rattle.rules.specs.declared.Manager.{Manager}
+use Rattle.rules.specs.Manager.{Manager, managerIn}
 use Rattle.rules.specs.declared.Partition.{Partition}
 use Rattle.rules.specs.declared.Partitions.{Partitions}
 use Rattle.rules.specs.declared.State.{State}
@@ -24,7 +24,7 @@ pub record Store : Type 0 where
   pub entries : List Entry
 
 abbrev pub managerOf : Store → Manager
-managerOf st = st .state .manager
+managerOf st = managerIn (st .state)
 
 -- ---- a partition (01: lot) as it lies in its area
 
@@ -46,13 +46,14 @@ spansAt p st = spans 0 (entriesAt p st) (rowsAt p st)
 -- ---- setters: the only place that writes all fields of a State
 
 abbrev pub stateOf : Manager → Partitions → State
-stateOf m ps = record { manager = m; partitions = ps }
+stateOf m ps = record {
+  clock = m .clock; writers = m .writers; deps = m .deps; readers = m .readers; partitions = ps }
 
 abbrev pub withManagerIn : Manager → State → State
-withManagerIn m s = record { manager = m; partitions = s .partitions }
+withManagerIn m s = stateOf m (s .partitions)
 
 abbrev pub withPartitionsIn : Partitions → State → State
-withPartitionsIn ps s = record { manager = s .manager; partitions = ps }
+withPartitionsIn ps s = stateOf (managerIn s) ps
 
 abbrev pub withManager : Manager → Store → Store
 withManager m st = record { state = withManagerIn m (st .state); rows = st .rows; entries = st .entries }

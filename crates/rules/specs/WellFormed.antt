@@ -16,7 +16,7 @@ use Rattle.rules.specs.Store.{Store, managerOf}
 use Rattle.rules.specs.declared.Clock.{Clock}
 use Rattle.rules.specs.declared.RwTxn.{RwTxn}
 use Rattle.rules.specs.declared.RoTxn.{RoTxn}
-use Rattle.rules.specs.declared.Manager.{Manager}
+use Rattle.rules.specs.Manager.{Manager}
 use Rattle.rules.specs.declared.Partition.{Partition}
 use Rattle.rules.specs.declared.Partitions.{Partitions}
 use Rattle.rules.specs.declared.Entry.{Entry}

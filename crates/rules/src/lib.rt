@@ -18,7 +18,7 @@ pub struct Clock {
 }
 
 // A read-write transaction (01: load). waiting is 0 while it is open, and 1 once it is committed above LCE. deps is
-// how many epochs were open when it began (01: deps); the epochs stand in the manager's table.
+// how many epochs were open when it began (01: deps); the epochs stand in the books' table.
 #[repr(C)]
 pub struct RwTxn {
     pub epoch: u64,
@@ -47,16 +47,6 @@ pub struct RoTxns {
     pub next: u64,
 }
 
-// The transaction manager: what 01's books hold beside the lots. deps is one table for all records: row i, its words
-// 31 * i to 31 * i + 30, belongs to record i.
-#[repr(C)]
-pub struct Manager {
-    pub clock: Clock,
-    pub writers: RwTxns,
-    pub deps: [u64; DEPS_ALL],
-    pub readers: RoTxns,
-}
-
 // A partition (01: lot): its area, and how many rows and entries it has there.
 #[repr(C)]
 pub struct Partition {
@@ -71,10 +61,14 @@ pub struct Partitions {
     pub spare: usize,
 }
 
-// 01's books, kept by value. The areas of rows and of entries are lent.
+// 01's books, kept by value: the transaction manager (specs/Manager.antt), then the lots. The areas of rows and of entries
+// are lent. deps is one table for all records: row i, its words 31 * i to 31 * i + 30, belongs to record i.
 #[repr(C)]
 pub struct State {
-    pub manager: Manager,
+    pub clock: Clock,
+    pub writers: RwTxns,
+    pub deps: [u64; DEPS_ALL],
+    pub readers: RoTxns,
     pub partitions: Partitions,
 }
 
@@ -121,6 +115,12 @@ pub enum Answer {
     Rewritten { rows: usize },
     Skipped { rows: usize },
     Refused(Refusal),
+}
+
+// What a call answers, and the books after it.
+pub struct Kept {
+    pub state: State,
+    pub answer: Answer,
 }
 
 // The calls that change nothing but the manager (01: the books without the lots).

@@ -30,8 +30,6 @@ use Rattle.rules.specs.declared.State.{State}
 use Rattle.rules.proofs.Clock as C
 use Rattle.rules.proofs.Clock.Laws as C′
 use Rattle.rules.proofs.Entry as T
-use Rattle.rules.proofs.Manager as M
-use Rattle.rules.proofs.Manager.Laws as M′
 use Rattle.rules.proofs.Partitions as P
 use Rattle.rules.proofs.Partitions.Laws as P′
 use Rattle.rules.proofs.RwTxns as R
@@ -85,7 +83,7 @@ askedParts = clock ∷ writers ∷ partitions ∷ []
 
 module _ (q : Ask) where
   abbrev pub asksOf : State → q .asked .row .Denot
-  asksOf s = q .askedOf (s .manager .clock) (s .manager .writers) (s .partitions)
+  asksOf s = q .askedOf (s .clock) (s .writers) (s .partitions)
 
   -- the entries, and how many rows are lent
   abbrev pub restOf : State → List Entry → ℕ → Bool
@@ -99,15 +97,12 @@ module _ (q : Ask) where
     Rests = Finds 𝓤 flag (number ∷ q .asked ∷ []) T.the-row (q .soundOf) H A
 
 -- ---- the parts of the books, which are local 1, as operands
-pub in-books : (s : State) → Is K.the-row s (books s ∷ []) → Fits 0 tt askedParts (s .manager .clock, (s .manager
-    .writers, (s .partitions, tt)))
-in-books s g =
-    let f = LL.owed K.the-type K′.the-laws s _ g in let m = LL.owed M.the-type M′.the-laws (s .manager) _ (f .0) in
-    (m .0, (m .1 .0, (f .1 .0, tt)))
+pub in-books : (s : State) → Is K.the-row s (books s ∷ []) → Fits 0 tt askedParts (s .clock, (s .writers, (s
+    .partitions, tt)))
+in-books s g = let f = LL.owed K.the-type K′.the-laws s _ g in (f .0, (f .1 .0, (f .1 .1 .1 .1 .0, tt)))
 
 abbrev pub askedFields : List Operand
-askedFields = copy (place 1 (field 0 ∷ field 0 ∷ [])) ∷ copy (place 1 (field 0 ∷ field 1 ∷ [])) ∷ copy (place 1 (field 1
-    ∷ [])) ∷ []
+askedFields = copy (place 1 (field 0 ∷ [])) ∷ copy (place 1 (field 1 ∷ [])) ∷ copy (place 1 (field 4 ∷ [])) ∷ []
 
 -- a group that begins with the books
 whole : {M : Type 1} {𝓤 : URA M} {H : Heap 𝓤} {A : Atoms 𝓤} {K : Type 0} (W : Given 𝓤 H A) (t : K) (j : Item 𝓤)
@@ -119,13 +114,12 @@ whole {𝓤 = 𝓤} {H} {K = K} W t j F m s here typed has = subst (λ (i : Item
 module _ {M : Type 1} {𝓤 : URA M} {H : Heap 𝓤} {A : Atoms 𝓤} {K : Type 0} {W : Given 𝓤 H A} {Γ : List (Item 𝓤)} {E :
     Env 𝓤 H} (t : K) (i : ℕ) {F : List (Ty × ℕ)} {m : List Use} (s : State) (here : nth 𝓤 H A i Γ ≡ Frame F m) (lies :
     at 𝓤 H E 1 ≡ at 𝓤 H F 0) (typed : Lies 𝓤 H F 0 K′.mir) (has : Has 0 m (books s)) where
-  pub partitions-arg : Opd K W Γ E (copy (place 1 (field 1 ∷ []))) (partitions .val (s .partitions))
-  partitions-arg = load t (spot t (lies ∙ typed) (fld t refl (stop t))) (look-in t i (sub t 1 refl (whole W t _ F m s
+  pub partitions-arg : Opd K W Γ E (copy (place 1 (field 4 ∷ []))) (partitions .val (s .partitions))
+  partitions-arg = load t (spot t (lies ∙ typed) (fld t refl (stop t))) (look-in t i (sub t 4 refl (whole W t _ F m s
       here typed has)))
 
-  pub ask-args : Opds K W Γ E askedFields (clock .val (s .manager .clock) ∷ writers .val (s .manager .writers) ∷
-      partitions .val (s .partitions) ∷ [])
-  ask-args = and-then t (load t (spot t (lies ∙ typed) (fld t refl (fld t refl (stop t)))) (look-in t i (sub t 0 refl
-      (sub t 0 refl (whole W t _ F m s here typed has))))) (and-then t (load t (spot t (lies ∙ typed) (fld t refl (fld t
-      refl (stop t)))) (look-in t i (sub t 1 refl (sub t 0 refl (whole W t _ F m s here typed has))))) (and-then t
-      partitions-arg (no-more t)))
+  pub ask-args : Opds K W Γ E askedFields (clock .val (s .clock) ∷ writers .val (s .writers) ∷ partitions .val (s
+      .partitions) ∷ [])
+  ask-args = and-then t (load t (spot t (lies ∙ typed) (fld t refl (stop t))) (look-in t i (sub t 0 refl (whole W t _ F
+      m s here typed has)))) (and-then t (load t (spot t (lies ∙ typed) (fld t refl (stop t))) (look-in t i (sub t 1
+      refl (whole W t _ F m s here typed has)))) (and-then t partitions-arg (no-more t)))

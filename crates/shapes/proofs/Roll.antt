@@ -136,7 +136,7 @@ module _ (sh : Roll) where
       (seq (call (sh .goes) (copy (place 8 []) ∷ []) (place 9 []))
       (reborrow 2 13 14 T′.mir
       (reborrow 3 15 16 word
-      (seq (call (sh .roll) (copy (place 14 []) ∷ copy (place 16 []) ∷ copy (place 1 (field 1 ∷ [])) ∷ copy (place 4
+      (seq (call (sh .roll) (copy (place 14 []) ∷ copy (place 16 []) ∷ copy (place 1 (field 4 ∷ [])) ∷ copy (place 4
           []) ∷ copy (place 9 []) ∷ []) (place 10 []))
       (seq (call (sh .fin) (copy (place 8 []) ∷ copy (place 10 []) ∷ []) (place 0 [])) return)))))))));
   }
@@ -264,7 +264,7 @@ module _ (sh : Roll) where
           body =
               assigns ! (of-opd ! (load ! (from ! (fld ! refl (stop !))) (look-in ! 2 (sub ! 1 refl (within ! 2
                   refl))))) (from ! (stop !)) (sets ! 3 0 refl tt (tt, record { fits = r₂ .0 })) $
-              yield-call fm (q .asked) askedParts (q .askedOf) known-ask (s .manager .clock, (s .manager .writers, (s
+              yield-call fm (q .asked) askedParts (q .askedOf) known-ask (s .clock, (s .writers, (s
                   .partitions, tt))) (in-books s gs) (λ _. ask-args ! 3 s refl refl refl refl) (λ ga.
               land ! (from ! (stop !)) (sets ! 3 1 refl tt (q .asked .wt 𝓤 H A W (asksOf q s) ga)) $
               assigns ! (addr ! (from ! (fld ! refl (hop ! (look-in ! 2 (sub ! 0 refl (within ! 1 refl))) (stop !)))))

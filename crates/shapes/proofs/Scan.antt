@@ -128,7 +128,7 @@ module _ (sh : Scan) where
       (seq (call (q .ask) askedFields (place (temp n 2) []))
       (seq (call (q .rest) (copy (place 2 []) ∷ copy (place (temp n 0) []) ∷ copy (place (temp n 2) []) ∷ []) (place
           (temp n 3) []))
-      (seq (call (sh .load) (copy (place 2 []) ∷ copy (place 1 (field 1 ∷ [])) ∷ copy (place (suc (behind (sh .key
+      (seq (call (sh .load) (copy (place 2 []) ∷ copy (place 1 (field 4 ∷ [])) ∷ copy (place (suc (behind (sh .key
           .local))) []) ∷ []) (place (temp n 4) []))
       (seq (call (sh .core) (copy (place 1 []) ∷ copy (place (temp n 3) []) ∷ copy (place (temp n 4) []) ∷ copy (place
           (temp n 1) []) ∷ copies 4 n) (place (temp n 5) []))
@@ -263,7 +263,7 @@ module _ (sh : Scan) where
                   refl))))) (spot ! (at-t 0) (stop !)) (sets ! 3 0 refl tt (tt, record { fits = r₂ .0 })) $
               assigns ! (of-opd ! (load ! (from ! (fld ! refl (stop !))) (look-in ! 2 (sub ! 1 refl (within ! 3
                   refl))))) (spot ! (at-t 1) (stop !)) (sets ! 3 1 refl tt (tt, record { fits = r₃ .0 })) $
-              yield-call fm (q .asked) askedParts (q .askedOf) known-ask (s .manager .clock, (s .manager .writers, (s
+              yield-call fm (q .asked) askedParts (q .askedOf) known-ask (s .clock, (s .writers, (s
                   .partitions, tt))) (in-books s gs) (λ _. ask-args ! 3 s refl refl refl refl) (λ ga.
               land ! (spot ! (at-t 2) (stop !)) (sets ! 3 2 refl tt (q .asked .wt 𝓤 H A W (asksOf q s) ga)) $
               find-call fm T.the-row flag (number ∷ q .asked ∷ []) (q .soundOf) known-rest x₁ (length (x₂ .list),

@@ -130,7 +130,7 @@ module _ (b : Bool) (n : List Shown) (q : Ask) (P : Shown) where
   abbrev pub loads : Load n → Body → Body
   loads nothing rest = rest
   loads (lot X f of k) rest = let l = lot X f of k in reborrow 2 (planned b n q l P 3) (planned b n q l P 4) T′.mir
-      (seq (call f (copy (place (planned b n q l P 4) []) ∷ copy (place 1 (field 1 ∷ [])) ∷ copy (place (suc (behind b
+      (seq (call f (copy (place (planned b n q l P 4) []) ∷ copy (place 1 (field 4 ∷ [])) ∷ copy (place (suc (behind b
           (k .local))) []) ∷ []) (place (head b n q l 2) [])) rest)
 
   abbrev pub operands : Load n → List Operand

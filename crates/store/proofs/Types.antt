@@ -5,18 +5,16 @@ use denote.Struct.Laws as LL
 use denote.Enum.Laws as EL
 use Rattle.rules.proofs.Answer as AnswerT
 use Rattle.rules.proofs.Answer.Laws as AnswerL
+use Rattle.rules.proofs.Kept as KeptT
+use Rattle.rules.proofs.Kept.Laws as KeptL
 use Rattle.rules.proofs.ManagerCall as ManagerCallT
 use Rattle.rules.proofs.ManagerCall.Laws as ManagerCallL
-use Rattle.txn.proofs.Managed as ManagedT
-use Rattle.txn.proofs.Managed.Laws as ManagedL
 use Rattle.walks.proofs.Shown.{Shown}
 use Rattle.shapes.proofs.Core.{Ask}
 use Rattle.partition_sound.specs.Asked.{askedOf, restAsked}
 use Rattle.partition_sound.proofs.Types.{asked}
 use Rattle.partition_sound.proofs.ask.Symbol as ask-code
 use Rattle.partition_sound.proofs.rest_ok.Symbol as rest-code
-use Rattle.store.proofs.Kept as KeptT
-use Rattle.store.proofs.Kept.Laws as KeptL
 
 abbrev pub kept : Shown
 kept = record {
@@ -39,13 +37,6 @@ managerCall = record {
   tells = EL.tells ManagerCallT.the-type ManagerCallL.the-laws;
   wt = λ 𝓤 H A G z g. EL.lawful ManagerCallT.the-type ManagerCallL.the-laws 𝓤 H A G tt .typed z _ g .0; last = λ x. tt;
   silent = λ x f. refl; makes = λ 𝓤 H A _. EL.makes ManagerCallT.the-type ManagerCallL.the-plain 𝓤 H A }
-
-abbrev pub managed : Shown
-managed = record {
-  row = ManagedT.the-row; mir = ManagedL.mir;
-  val = LL.val ManagedT.the-type ManagedL.the-laws; tells = LL.tells ManagedT.the-type ManagedL.the-laws;
-  wt = λ 𝓤 H A G z g. LL.lawful ManagedT.the-type ManagedL.the-laws 𝓤 H A G .typed z _ g .0; last = λ x. tt;
-  silent = λ x f. refl; makes = λ 𝓤 H A _. LL.makes ManagedT.the-type ManagedL.the-plain 𝓤 H A }
 
 abbrev pub asks : Ask
 asks = record { asked = asked; ask = ask-code.name; rest = rest-code.name; askedOf = askedOf; soundOf = restAsked }

@@ -7,18 +7,17 @@ use Rattle.rules.specs.declared.State.{State}
 use Rattle.partition.specs.Areas.{withPartition, movedTo}
 use Rattle.plan_write.specs.declared.Write.{Write}
 use Rattle.plan_purge.specs.declared.Purge.{Purge}
-use Rattle.txn.specs.declared.Managed.{Managed}
-use Rattle.store.specs.declared.Kept.{Kept}
+use Rattle.rules.specs.declared.Kept.{Kept}
 
 abbrev pub doneWrite : State → Write → Kept
 doneWrite s w = record {
-  answer = w .answer; state = withPartitionsIn (withPartition (w .place) (w .partition) (s .partitions)) s }
+  state = withPartitionsIn (withPartition (w .place) (w .partition) (s .partitions)) s; answer = w .answer }
 
 abbrev pub donePurge : State → Purge → Kept
 donePurge s w = record {
-  answer = w .answer;
-  state = withPartitionsIn (movedTo (w .place) (w .rows) (w .new .count) (s .partitions)) s }
+  state = withPartitionsIn (movedTo (w .place) (w .rows) (w .new .count) (s .partitions)) s;
+  answer = w .answer }
 
--- the manager's part, and the partitions that the lots' part left
-abbrev pub doneRollBack : Managed → Partitions → Kept
-doneRollBack done ps = record { answer = done .answer; state = record { manager = done .manager; partitions = ps } }
+-- the books after the manager's part, with the partitions that the lots' part left
+abbrev pub doneRollBack : Kept → Partitions → Kept
+doneRollBack done ps = record { state = withPartitionsIn ps (done .state); answer = done .answer }

@@ -5,7 +5,7 @@ use mathlib.Core.Path.{_≡_}
 use mathlib.Core.Bool.{Bool, _&&_, cond}
 use mathlib.Core.List.{List}
 use Prim.Native.Nat.{ℕ}
-use Rattle.rules.specs.Store.{Store, withManagerIn, createdState}
+use Rattle.rules.specs.Store.{Store, createdState}
 use Rattle.rules.specs.Answers.{accepted}
 use Rattle.rules.specs.WellFormed.{managerOk}
 use Rattle.rules.specs.Close.{rolledBackManager}
@@ -14,12 +14,11 @@ use Rattle.rules.specs.Step.{Outcome}
 use Rattle.rules.specs.declared.Answer.{Answer}
 use Rattle.rules.specs.declared.ManagerCall.{ManagerCall}
 use Rattle.rules.specs.declared.Entry.{Entry}
-use Rattle.rules.specs.declared.Manager.{Manager}
+use Rattle.rules.specs.Manager.{Manager, managerIn}
 use Rattle.rules.specs.declared.State.{State}
-use Rattle.txn.specs.Managed.{managed}
-use Rattle.txn.specs.declared.Managed.{Managed}
+use Rattle.txn.specs.Kept.{keptOf}
 use Rattle.partition_sound.specs.Asked.{lengthsAre}
-use Rattle.store.specs.declared.Kept.{Kept}
+use Rattle.rules.specs.declared.Kept.{Kept}
 
 -- the store of the books and the lent areas
 abbrev pub storeOf : State → List ℕ → List Entry → Store
@@ -35,27 +34,19 @@ Showed out r bytes st = (r ≡ out .answer) × (bytes ≡ out .bitmap) × (st �
 
 -- ---- calls on the manager
 
-abbrev pub keptWith : State → Managed → Kept
-keptWith s done = record { answer = done .answer; state = withManagerIn (done .manager) s }
-
--- next is the manager that an accepted call leaves
-abbrev pub keptOf : Answer → Manager → State → Kept
-keptOf a next s =
-    record { answer = a; state = withManagerIn (cond (accepted a) next (s .manager)) s }
-
 -- making new reads no state
 abbrev pub createKept : State → ℕ → ℕ → ℕ → Kept
 createKept s n m a =
     let answer = createAnswer a (lengthsAre n m) in
-    record { answer = answer; state = cond (accepted answer) (createdState a) s }
+    record { state = cond (accepted answer) (createdState a) s; answer = answer }
 
 -- rest says whether the rest of the store is sound
 abbrev pub managerKept : State → Bool → ManagerCall → Kept
 managerKept s rest c =
-    keptOf (managerAnswer c (rest && managerOk (s .manager)) (s .manager)) (managerAfter c (s .manager)) s
+    keptOf (managerAnswer c (rest && managerOk (managerIn s)) (managerIn s)) (managerAfter c (managerIn s)) s
 
 -- the manager's part of rolling back transaction i
-abbrev pub rollBackManaged : State → Bool → ℕ → Managed
-rollBackManaged s rest i =
-    let next = rolledBackManager i (s .manager) in
-    managed (closeAnswer i (rest && managerOk (s .manager)) (s .manager) next) next (s .manager)
+abbrev pub rollBackKept : State → Bool → ℕ → Kept
+rollBackKept s rest i =
+    let m = managerIn s in let next = rolledBackManager i m in
+    keptOf (closeAnswer i (rest && managerOk m) m next) next s

@@ -1,13 +1,12 @@
 // What a call answers and keeps, of the books and its plan.
 ghost use mathlib.Core.Path.{_≡_};
 ghost use Rattle.store.specs.Done.{doneWrite, donePurge, doneRollBack};
-use crate::Kept;
 use partition::areas;
 use plan_purge::Purge;
 use plan_write::Write;
+use rules::Kept;
 use rules::Partitions;
 use rules::State;
-use txn::Managed;
 
 pub fn write_done(state: State, w: Write) -> Kept
     ensures { λ r. ⌜ r ≡ doneWrite state w ⌝ }
@@ -17,8 +16,8 @@ pub fn write_done(state: State, w: Write) -> Kept
     after.partitions = next;
     let answer = w.answer;
     Kept {
-        answer: answer,
         state: after,
+        answer: answer,
     }
 }
 
@@ -30,23 +29,20 @@ pub fn purge_done(state: State, w: Purge) -> Kept
     after.partitions = next;
     let answer = w.answer;
     Kept {
-        answer: answer,
         state: after,
+        answer: answer,
     }
 }
 
-// The manager after a roll back, and the partitions that the lots' part left.
-pub fn roll_back_done(done: Managed, partitions: Partitions) -> Kept
+// The books after a roll back's part of the manager, with the partitions that the lots' part left.
+pub fn roll_back_done(done: Kept, partitions: Partitions) -> Kept
     ensures { λ r. ⌜ r ≡ doneRollBack done partitions ⌝ }
 {
-    let manager = done.manager;
+    let mut s = done.state;
+    s.partitions = partitions;
     let answer = done.answer;
-    let state = State {
-        manager: manager,
-        partitions: partitions,
-    };
     Kept {
+        state: s,
         answer: answer,
-        state: state,
     }
 }

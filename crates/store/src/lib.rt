@@ -1,34 +1,54 @@
-// The store: one public function for the calls on the manager, and one for each other call of 01. The books are kept by
-// value, the areas of rows and of entries are lent. Each call asks whether the lots are sound, loads what it needs of
-// one lot, decides by value, then writes; what it answers and leaves is rules' step.
+// The store: one public function for each call of 01, and one for any call on the manager. The books are kept by value,
+// the areas of rows and of entries are lent. Each call asks whether the lots are sound, loads what it needs of one lot,
+// decides by value, then writes; what it answers and leaves is rules' step.
 ghost use mathlib.Core.Path.{_≡_};
 ghost use Rattle.rules.specs.Store.{createdState};
 ghost use Rattle.rules.specs.Step.{step, manage, append, clear, rollback, create, scan, purge};
+ghost use Rattle.rules.specs.Step.{begin, commit, beginRo, endRo, advanceLse};
 ghost use Rattle.rules.specs.declared.Reader.the-variants.{Rw, Ro};
 ghost use Rattle.store.specs.Kept.{storeOf, Left, Showed};
+use epoch::predecessor;
 use rules::Answer;
+use rules::Clock;
 use rules::Entry;
+use rules::Kept;
 use rules::ManagerCall;
+use rules::RoTxns;
+use rules::RwTxns;
 use rules::State;
+use rules::limits::DEPS_ALL;
+use rules::limits::READERS_MAX;
+use rules::limits::WRITERS_MAX;
+use txn_find::no_ro;
+use txn_find::no_rw;
 
 mod books;
 mod done;
 pub mod part;
 
-// What a call answers, and the books after it.
-pub struct Kept {
-    pub answer: Answer,
-    pub state: State,
-}
-
 // The books that making new at s leaves, whatever s is, for a caller that has none yet.
 pub fn new_books(s: u64) -> State
     ensures { λ r. ⌜ r ≡ createdState s ⌝ }
 {
-    let manager = txn_start::created(s);
+    let base = predecessor(s);
+    let t = no_rw();
+    let p = no_ro();
+    let ts = [t; WRITERS_MAX];
+    let ps = [p; READERS_MAX];
     let partitions = books::fresh();
     State {
-        manager: manager,
+        clock: Clock {
+            ec: s,
+            lce: base,
+            lse: base,
+        },
+        writers: RwTxns { at: ts, count: 0 },
+        deps: [0; DEPS_ALL],
+        readers: RoTxns {
+            at: ps,
+            count: 0,
+            next: 1,
+        },
         partitions: partitions,
     }
 }
@@ -43,16 +63,70 @@ pub fn create(state: State, entries: &[Entry], rows: &[u64], a: u64) -> Kept
     books::create_core(state, n, m, a)
 }
 
-// The calls that change nothing but the manager. Refusals, in this order: begin 5, 6, 7; commit 5, 2; opening a page
-// 5, 4, 6, 7; closing one 5, 2; moving LSE 5, 4, 10.
+// Any call that changes nothing but the manager, for a caller that has it as a value: the five that follow.
 pub fn manage(state: State, entries: &[Entry], rows: &[u64], call: ManagerCall) -> Kept
     ensures { λ r. ⌜ Left (step (manage call) (storeOf state (now (rows .entry)) (now (entries .entry))))
         r (now (rows .entry)) (now (entries .entry)) ⌝ }
 {
     let m = rows.len();
-    let a = partition_sound::ask(state.manager.clock, state.manager.writers, state.partitions);
+    let a = partition_sound::ask(state.clock, state.writers, state.partitions);
     let rest = partition_sound::rest_ok(entries, m, a);
     books::manage_core(state, rest, call)
+}
+
+// A transaction (01: load) begins. Refusals, in this order: 5, 6, 7.
+pub fn begin(state: State, entries: &[Entry], rows: &[u64]) -> Kept
+    ensures { λ r. ⌜ Left (step begin (storeOf state (now (rows .entry)) (now (entries .entry))))
+        r (now (rows .entry)) (now (entries .entry)) ⌝ }
+{
+    let m = rows.len();
+    let a = partition_sound::ask(state.clock, state.writers, state.partitions);
+    let rest = partition_sound::rest_ok(entries, m, a);
+    txn_start::begin(state, rest)
+}
+
+// Transaction txn commits. Refusals, in this order: 5, 2.
+pub fn commit(state: State, entries: &[Entry], rows: &[u64], txn: u64) -> Kept
+    ensures { λ r. ⌜ Left (step (commit txn) (storeOf state (now (rows .entry)) (now (entries .entry))))
+        r (now (rows .entry)) (now (entries .entry)) ⌝ }
+{
+    let m = rows.len();
+    let a = partition_sound::ask(state.clock, state.writers, state.partitions);
+    let rest = partition_sound::rest_ok(entries, m, a);
+    txn_close::commit(state, rest, txn)
+}
+
+// A read-only transaction (01: page) begins at an epoch; 0 means LCE. Refusals, in this order: 5, 4, 6, 7.
+pub fn begin_ro(state: State, entries: &[Entry], rows: &[u64], epoch: u64) -> Kept
+    ensures { λ r. ⌜ Left (step (beginRo epoch) (storeOf state (now (rows .entry)) (now (entries .entry))))
+        r (now (rows .entry)) (now (entries .entry)) ⌝ }
+{
+    let m = rows.len();
+    let a = partition_sound::ask(state.clock, state.writers, state.partitions);
+    let rest = partition_sound::rest_ok(entries, m, a);
+    txn_read::begin_ro(state, rest, epoch)
+}
+
+// The read-only transaction of a ticket ends. Refusals, in this order: 5, 2.
+pub fn end_ro(state: State, entries: &[Entry], rows: &[u64], ticket: u64) -> Kept
+    ensures { λ r. ⌜ Left (step (endRo ticket) (storeOf state (now (rows .entry)) (now (entries .entry))))
+        r (now (rows .entry)) (now (entries .entry)) ⌝ }
+{
+    let m = rows.len();
+    let a = partition_sound::ask(state.clock, state.writers, state.partitions);
+    let rest = partition_sound::rest_ok(entries, m, a);
+    txn_read::end_ro(state, rest, ticket)
+}
+
+// LSE moves to a target; 0 means as far as it may go. Refusals, in this order: 5, 4, 10.
+pub fn advance_lse(state: State, entries: &[Entry], rows: &[u64], target: u64) -> Kept
+    ensures { λ r. ⌜ Left (step (advanceLse target) (storeOf state (now (rows .entry)) (now (entries .entry))))
+        r (now (rows .entry)) (now (entries .entry)) ⌝ }
+{
+    let m = rows.len();
+    let a = partition_sound::ask(state.clock, state.writers, state.partitions);
+    let rest = partition_sound::rest_ok(entries, m, a);
+    txn_safe::advance_lse(state, rest, target)
 }
 
 // The rows of batch to partition p (01: lot), by transaction txn (01: load). Refusals, in this order: 5, 1, 2, 8, 9.
@@ -70,7 +144,7 @@ pub fn append(
     let n = entries.len();
     let m = rows.len();
     let k = batch.len();
-    let a = partition_sound::ask(state.manager.clock, state.manager.writers, state.partitions);
+    let a = partition_sound::ask(state.clock, state.writers, state.partitions);
     let rest = partition_sound::rest_ok(entries, m, a);
     let last = area::last_entry(entries, state.partitions, p);
     let w = plan_write::append_core(state, rest, last, n, m, k, txn, p);
@@ -86,7 +160,7 @@ pub fn clear(state: State, entries: &mut [Entry], rows: &mut [u64], txn: u64, p:
 {
     let n = entries.len();
     let m = rows.len();
-    let a = partition_sound::ask(state.manager.clock, state.manager.writers, state.partitions);
+    let a = partition_sound::ask(state.clock, state.writers, state.partitions);
     let rest = partition_sound::rest_ok(entries, m, a);
     let w = plan_write::clear_core(state, rest, n, m, txn, p);
     plan_write::put_write(entries, w);
@@ -100,9 +174,9 @@ pub fn roll_back(state: State, entries: &mut [Entry], rows: &mut [u64], a: u64) 
         r (now (rows .exit)) (now (entries .exit)) ⌝ }
 {
     let m = rows.len();
-    let asked = partition_sound::ask(state.manager.clock, state.manager.writers, state.partitions);
+    let asked = partition_sound::ask(state.clock, state.writers, state.partitions);
     let rest = partition_sound::rest_ok(entries, m, asked);
-    let done = books::roll_back_core(state, rest, a);
+    let done = txn_close::roll_back(state, rest, a);
     let go = books::goes_on(done);
     let partitions = undo::lots::roll_lots(entries, rows, state.partitions, a, go);
     done::roll_back_done(done, partitions)
@@ -123,7 +197,7 @@ pub fn scan_rw(
 {
     let m = rows.len();
     let k = bitmap.len();
-    let a = partition_sound::ask(state.manager.clock, state.manager.writers, state.partitions);
+    let a = partition_sound::ask(state.clock, state.writers, state.partitions);
     let rest = partition_sound::rest_ok(entries, m, a);
     let lot = area::load(entries, state.partitions, p);
     let w = plan_scan::rw_core(state, rest, lot, k, i, p);
@@ -146,7 +220,7 @@ pub fn scan_ro(
 {
     let m = rows.len();
     let k = bitmap.len();
-    let a = partition_sound::ask(state.manager.clock, state.manager.writers, state.partitions);
+    let a = partition_sound::ask(state.clock, state.writers, state.partitions);
     let rest = partition_sound::rest_ok(entries, m, a);
     let lot = area::load(entries, state.partitions, p);
     let w = plan_scan::ro_core(state, rest, lot, k, t, p);
@@ -161,7 +235,7 @@ pub fn purge(state: State, entries: &mut [Entry], rows: &mut [u64], p: u64) -> K
 {
     let n = entries.len();
     let m = rows.len();
-    let a = partition_sound::ask(state.manager.clock, state.manager.writers, state.partitions);
+    let a = partition_sound::ask(state.clock, state.writers, state.partitions);
     let rest = partition_sound::rest_ok(entries, m, a);
     let lot = area::load(entries, state.partitions, p);
     let w = plan_purge::purge_core(state, rest, lot, n, m, p);

@@ -1,2 +1,2 @@
-pub mod Managed
+pub mod Kept
 pub mod Records

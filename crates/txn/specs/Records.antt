@@ -12,7 +12,7 @@ use Rattle.rules.specs.Manager.{Writer, noRw, noRo, views, readersOf, recordOf,
 use Rattle.rules.specs.declared.RwTxns.{RwTxns}
 use Rattle.rules.specs.declared.RoTxn.{RoTxn}
 use Rattle.rules.specs.declared.RoTxns.{RoTxns}
-use Rattle.rules.specs.declared.Manager.{Manager}
+use Rattle.rules.specs.Manager.{Manager}
 
 -- xs without the elements from a up to b
 abbrev pub cut : {A : Type 0} → ℕ → ℕ → List A → List A

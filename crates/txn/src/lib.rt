@@ -1,12 +1,13 @@
 // What the calls on the transaction manager share. 01 "The books"; 004 III-A, III-B.
-// Each call is answered by 01's refusals in 01's order, and a refusal hands the manager back as it was. rest says
-// whether the rest of the store is sound; the manager's own soundness is tested by is_sound.
+// Each call is answered by 01's refusals in 01's order, and a refusal hands the books back as they were. rest says
+// whether the rest of the store is sound; the manager's own soundness is tested by parts_sound.
 use rules::Answer;
 use rules::Clock;
-use rules::Manager;
+use rules::Kept;
 use rules::Refusal;
 use rules::RoTxns;
 use rules::RwTxns;
+use rules::State;
 ghost use mathlib.Core.Bool.{_&&_};
 ghost use mathlib.Core.Path.{_≡_};
 ghost use lib.Dec.{eqb};
@@ -14,34 +15,18 @@ ghost use lib.ListN.{length};
 ghost use Rattle.rules.specs.Limits.{depsAll};
 ghost use Rattle.rules.specs.Manager.{managerWith};
 ghost use Rattle.rules.specs.WellFormed.{managerOk};
-ghost use Rattle.txn.specs.Managed.{refusedWith};
+ghost use Rattle.txn.specs.Kept.{refusedWith};
 
-// What a call answers, and the manager after it.
-pub struct Managed {
-    pub answer: Answer,
-    pub manager: Manager,
-}
-
-pub fn refused(m: Manager, why: Refusal) -> Managed
-    ensures { λ r. ⌜ r ≡ refusedWith why m ⌝ }
+pub fn refused(state: State, why: Refusal) -> Kept
+    ensures { λ r. ⌜ r ≡ refusedWith why state ⌝ }
 {
-    Managed {
+    Kept {
+        state: state,
         answer: Answer::Refused(why),
-        manager: m,
     }
 }
 
-pub fn is_sound(m: Manager, rest: bool) -> bool
-    ensures { λ r. ⌜ r ≡ rest && managerOk m ⌝ }
-{
-    if rest {
-        txn_sound::manager_ok(m)
-    } else {
-        false
-    }
-}
-
-// The same of a manager's parts, its table of deps lent: nothing large is handed over.
+// Soundness by the manager's parts, its table of deps lent: nothing large is handed over.
 pub fn parts_sound(rest: bool, c: Clock, ts: RwTxns, deps: &[u64], ps: RoTxns) -> bool
     ensures { λ r. ⌜ r ≡ (rest && (eqb (length (now (deps .entry))) depsAll
         && managerOk (managerWith c ts (now (deps .entry)) ps))) ⌝ }

@@ -10,7 +10,7 @@ use lib.ListN.{set}
 use Rattle.rules.specs.Manager.{Writer, isOpen}
 use Rattle.rules.specs.Close.{waitingTxn, committedManager, rolledBackManager}
 use Rattle.rules.specs.declared.Clock.{Clock}
-use Rattle.rules.specs.declared.Manager.{Manager}
+use Rattle.rules.specs.Manager.{Manager}
 use Rattle.txn.specs.Records.{cut, writersWith}
 use Rattle.txn_close.specs.declared.close.Books.{Books}
 use Rattle.txn_close.specs.declared.close.Reached.{Reached}

@@ -1,13 +1,13 @@
-// Opening and closing a page, on the manager by value. 01 "The books", Open a page; 004 III-A, RO transactions.
+// Opening and closing a page, on the books by value. 01 "The books", Open a page; 004 III-A, RO transactions.
 mod read_only;
 
 use rules::Answer;
-use rules::Manager;
+use rules::Kept;
 use rules::Refusal;
+use rules::State;
 use rules::limits::LAST_TICKET;
 use rules::limits::READERS_MAX;
-use txn::Managed;
-use txn::is_sound;
+use txn::parts_sound;
 use txn::refused;
 use txn_find::Found;
 use txn_find::find_reader;
@@ -16,53 +16,56 @@ ghost use mathlib.Core.Path.{_≡_};
 ghost use Rattle.rules.specs.ReadOnly.{begunRoManager, endedRoManager};
 ghost use Rattle.rules.specs.WellFormed.{managerOk};
 ghost use Rattle.rules.specs.Calls.{beginRoAnswer, endRoAnswer};
-ghost use Rattle.txn.specs.Managed.{managed};
+ghost use Rattle.txn.specs.Kept.{keptOf};
+ghost use Rattle.rules.specs.Manager.{managerIn};
 
 // Opening a page at epoch e. Refusals, in this order: 5, 4, 6, 7.
-pub fn begin_ro(m: Manager, rest: bool, e: u64) -> Managed
-    ensures { λ r. ⌜ r ≡ managed (beginRoAnswer e (rest && managerOk m) m) (begunRoManager e m) m ⌝ }
+pub fn begin_ro(state: State, rest: bool, e: u64) -> Kept
+    ensures { λ r. ⌜ (let m = managerIn state in
+        r ≡ keptOf (beginRoAnswer e (rest && managerOk m) m) (begunRoManager e m) state) ⌝ }
 {
-    if !is_sound(m, rest) {
-        return refused(m, Refusal::Unsound);
+    let mut s = state;
+    let mut answer = Answer::Refused(Refusal::Unsound);
+    if parts_sound(rest, s.clock, s.writers, &s.deps, s.readers) {
+        let at = read_only::snapshot(e, s.clock.lce);
+        if at < s.clock.lse {
+            answer = Answer::Refused(Refusal::OutOfRange);
+        } else if s.clock.lce < at {
+            answer = Answer::Refused(Refusal::OutOfRange);
+        } else if s.readers.next == LAST_TICKET + 1 {
+            answer = Answer::Refused(Refusal::Exhausted);
+        } else if READERS_MAX <= s.readers.count {
+            answer = Answer::Refused(Refusal::TxnsFull);
+        } else {
+            answer = Answer::BegunRo {
+                ticket: s.readers.next,
+            };
+            let ps = read_only::begun_ro(s.readers, at);
+            s.readers = ps;
+        }
     }
-    let at = read_only::snapshot(e, m.clock.lce);
-    if at < m.clock.lse {
-        return refused(m, Refusal::OutOfRange);
-    }
-    if m.clock.lce < at {
-        return refused(m, Refusal::OutOfRange);
-    }
-    let t = m.readers.next;
-    if t == LAST_TICKET + 1 {
-        return refused(m, Refusal::Exhausted);
-    }
-    if READERS_MAX <= m.readers.count {
-        return refused(m, Refusal::TxnsFull);
-    }
-    let next = read_only::begun_ro(m, e);
-    Managed {
-        answer: Answer::BegunRo { ticket: t },
-        manager: next,
+    Kept {
+        state: s,
+        answer: answer,
     }
 }
 
 // Closing a page. Refusals, in this order: 5, 2.
-pub fn end_ro(m: Manager, rest: bool, t: u64) -> Managed
-    ensures { λ r. ⌜ r ≡ managed (endRoAnswer t (rest && managerOk m) m) (endedRoManager t m) m ⌝ }
+pub fn end_ro(state: State, rest: bool, t: u64) -> Kept
+    ensures { λ r. ⌜ (let m = managerIn state in
+        r ≡ keptOf (endRoAnswer t (rest && managerOk m) m) (endedRoManager t m) state) ⌝ }
 {
-    if !is_sound(m, rest) {
-        return refused(m, Refusal::Unsound);
+    let mut s = state;
+    if !parts_sound(rest, s.clock, s.writers, &s.deps, s.readers) {
+        return refused(s, Refusal::Unsound);
     }
-    let Found::At(j) = find_reader(m.readers, t) else {
-        return refused(m, Refusal::NotOpen);
+    let Found::At(j) = find_reader(s.readers, t) else {
+        return refused(s, Refusal::NotOpen);
     };
-    let ps = read_only::cut_readers(m.readers, j, j + 1);
-    let mut next = m;
-    next.readers = ps;
-    Managed {
-        answer: Answer::EndedRo {
-            left: next.readers.count,
-        },
-        manager: next,
+    let ps = read_only::cut_readers(s.readers, j, j + 1);
+    s.readers = ps;
+    Kept {
+        state: s,
+        answer: Answer::EndedRo { left: ps.count },
     }
 }

@@ -1,18 +1,16 @@
-// The manager with a read-only transaction (01: page) more or less. 01 "The books", Open a page.
-use rules::Manager;
+// The records with a read-only transaction (01: page) more or less. 01 "The books", Open a page.
 use rules::RoTxn;
 use rules::RoTxns;
 use txn_find::no_ro;
-ghost use mathlib.Core.Bool.{true, cond};
+ghost use mathlib.Core.Bool.{cond};
+ghost use mathlib.Core.List.{[], _∷_, _++_};
 ghost use mathlib.Core.Path.{_≡_};
-ghost use Prim.Native.Nat.{_<_, _≤_};
+ghost use Prim.Native.Nat.{suc, _<_, _≤_};
 ghost use lib.Dec.{eqb};
 ghost use lib.ListN.{take};
 ghost use Rattle.lists.specs.Lists.{pad};
 ghost use Rattle.rules.specs.Limits.{lastTicket, readersMax};
-ghost use Rattle.rules.specs.Manager.{noRo};
-ghost use Rattle.rules.specs.ReadOnly.{begunRoManager};
-ghost use Rattle.rules.specs.WellFormed.{managerOk};
+ghost use Rattle.rules.specs.Manager.{noRo, roTxn};
 ghost use Rattle.txn.specs.Records.{cut, readersWith};
 
 // The epoch that e names: the value 0 means LCE.
@@ -22,15 +20,14 @@ pub(crate) fn snapshot(e: u64, lce: u64) -> u64
     if e == 0 { lce } else { e }
 }
 
-// The next ticket is handed out, at the epoch that e names.
-pub(crate) fn begun_ro(m: Manager, e: u64) -> Manager
-    requires { ⌜ managerOk m ≡ true ⌝ }
-    requires { ⌜ m .readers .count < readersMax ⌝ }
-    requires { ⌜ m .readers .next ≤ lastTicket ⌝ }
-    ensures { λ r. ⌜ r ≡ begunRoManager e m ⌝ }
+// The next ticket is handed out, at epoch `at`.
+pub(crate) fn begun_ro(readers: RoTxns, at: u64) -> RoTxns
+    requires { ⌜ (readers .count < readersMax) × (readers .next ≤ lastTicket) ⌝ }
+    requires { ⌜ readers .at ≡ pad readersMax noRo (take (readers .count) (readers .at)) ⌝ }
+    ensures { λ r. ⌜ r ≡ readersWith (take (readers .count) (readers .at) ++ (roTxn (readers .next) at ∷ []))
+        (suc (readers .next)) ⌝ }
 {
-    let at = snapshot(e, m.clock.lce);
-    let mut ps = m.readers;
+    let mut ps = readers;
     let n = ps.count;
     let ticket = ps.next;
     ps.at[n] = RoTxn {
@@ -39,9 +36,7 @@ pub(crate) fn begun_ro(m: Manager, e: u64) -> Manager
     };
     ps.count = n + 1;
     ps.next = ticket + 1;
-    let mut next = m;
-    next.readers = ps;
-    next
+    ps
 }
 
 // The records without those from place a up to place b.

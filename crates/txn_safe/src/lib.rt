@@ -1,15 +1,15 @@
-// Moving LSE, and how far it may move, on the manager by value. 01 "The books", Move LSE; 004 III-C 5.
+// Moving LSE, and how far it may move, on the books by value. 01 "The books", Move LSE; 004 III-C 5.
 use epoch::predecessor;
 use places::in_use;
 use rules::Answer;
 use rules::Clock;
-use rules::Manager;
+use rules::Kept;
 use rules::Refusal;
 use rules::RoTxns;
 use rules::RwTxns;
+use rules::State;
 use rules::limits::READERS_MAX;
 use rules::limits::WRITERS_MAX;
-use txn::Managed;
 use txn::parts_sound;
 use txn_find::row_of;
 ghost use mathlib.Core.Bool.{_&&_, _||_};
@@ -19,11 +19,11 @@ ghost use Prim.Native.Nat.{min, _-_};
 ghost use lib.Dec.{ltb};
 ghost use lib.ListN.{take};
 ghost use Rattle.lists.specs.Lists.{anyOf, gather};
-ghost use Rattle.rules.specs.Manager.{managerWith};
+ghost use Rattle.rules.specs.Manager.{managerIn, managerWith};
 ghost use Rattle.rules.specs.Safe.{greatestTarget, advancedManager};
 ghost use Rattle.rules.specs.WellFormed.{managerOk};
 ghost use Rattle.rules.specs.Calls.{advanceLseAnswer};
-ghost use Rattle.txn.specs.Managed.{managed};
+ghost use Rattle.txn.specs.Kept.{keptOf};
 ghost use Rattle.txn.specs.Records.{viewed};
 ghost use Rattle.txn_safe.specs.Safe.{depBlocks, underDeps};
 
@@ -136,10 +136,11 @@ fn greatest(c: Clock, ts: RwTxns, deps: &[u64], ps: RoTxns) -> u64
 }
 
 // Moving LSE to t; the value 0 means as far as it may go, which is never refused. Refusals, in this order: 5, 4, 10.
-pub fn advance_lse(m: Manager, rest: bool, t: u64) -> Managed
-    ensures { λ r. ⌜ r ≡ managed (advanceLseAnswer t (rest && managerOk m) m) (advancedManager t m) m ⌝ }
+pub fn advance_lse(state: State, rest: bool, t: u64) -> Kept
+    ensures { λ r. ⌜ (let m = managerIn state in
+        r ≡ keptOf (advanceLseAnswer t (rest && managerOk m) m) (advancedManager t m) state) ⌝ }
 {
-    let mut s = m;
+    let mut s = state;
     let mut answer = Answer::Refused(Refusal::Unsound);
     if parts_sound(rest, s.clock, s.writers, &s.deps, s.readers) {
         if t == 0 {
@@ -157,8 +158,8 @@ pub fn advance_lse(m: Manager, rest: bool, t: u64) -> Managed
             answer = Answer::AdvancedLse { lse: t };
         }
     }
-    Managed {
+    Kept {
+        state: s,
         answer: answer,
-        manager: s,
     }
 }

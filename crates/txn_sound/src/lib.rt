@@ -2,7 +2,6 @@
 use epoch::Epoch;
 use places::in_use;
 use rules::Clock;
-use rules::Manager;
 use rules::RoTxn;
 use rules::RoTxns;
 use rules::RwTxns;
@@ -204,10 +203,4 @@ pub fn parts_ok(c: Clock, ts: RwTxns, deps: &[u64], ps: RoTxns) -> bool
         return false;
     }
     readers_ok(ps, c)
-}
-
-pub fn manager_ok(m: Manager) -> bool
-    ensures { λ r. ⌜ r ≡ managerOk m ⌝ }
-{
-    parts_ok(m.clock, m.writers, &m.deps, m.readers)
 }

@@ -1,59 +1,28 @@
-// Making new and begin, on the manager by value. 01 "The books", first paragraph and Begin; 004 III-B "EC".
+// Begin, on the books by value. 01 "The books", Begin; 004 III-B "EC".
 mod start;
 
 use epoch::Epoch;
-use epoch::predecessor;
 use rules::Answer;
-use rules::Clock;
-use rules::Manager;
+use rules::Kept;
 use rules::Refusal;
-use rules::RoTxns;
-use rules::RwTxns;
-use rules::limits::DEPS_ALL;
-use rules::limits::READERS_MAX;
+use rules::State;
 use rules::limits::WRITERS_MAX;
-use txn::Managed;
 use txn::parts_sound;
-use txn_find::no_ro;
-use txn_find::no_rw;
 ghost use mathlib.Core.Bool.{_&&_};
 ghost use mathlib.Core.Path.{_≡_};
-ghost use Rattle.rules.specs.Begin.{createdManager, begunManager};
+ghost use Rattle.rules.specs.Begin.{begunManager};
+ghost use Rattle.rules.specs.Manager.{managerIn};
 ghost use Rattle.rules.specs.WellFormed.{managerOk};
 ghost use Rattle.rules.specs.Calls.{beginAnswer};
-ghost use Rattle.txn.specs.Managed.{managed};
-
-// The manager that making new leaves, whatever s is; whether s names an epoch is Epoch::new's to say.
-pub fn created(s: u64) -> Manager
-    ensures { λ r. ⌜ r ≡ createdManager s ⌝ }
-{
-    let base = predecessor(s);
-    let t = no_rw();
-    let p = no_ro();
-    let ts = [t; WRITERS_MAX];
-    let ps = [p; READERS_MAX];
-    Manager {
-        clock: Clock {
-            ec: s,
-            lce: base,
-            lse: base,
-        },
-        writers: RwTxns { at: ts, count: 0 },
-        deps: [0; DEPS_ALL],
-        readers: RoTxns {
-            at: ps,
-            count: 0,
-            next: 1,
-        },
-    }
-}
+ghost use Rattle.txn.specs.Kept.{keptOf};
 
 // The clock hands out EC and steps it by one; the transaction of that epoch is open. Its deps are the epochs of those
 // that are open before it, in order. Refusals, in this order: 5, 6, 7.
-pub fn begin(m: Manager, rest: bool) -> Managed
-    ensures { λ r. ⌜ r ≡ managed (beginAnswer (rest && managerOk m) m) (begunManager m) m ⌝ }
+pub fn begin(state: State, rest: bool) -> Kept
+    ensures { λ r. ⌜ (let m = managerIn state in
+        r ≡ keptOf (beginAnswer (rest && managerOk m) m) (begunManager m) state) ⌝ }
 {
-    let mut s = m;
+    let mut s = state;
     let mut answer = Answer::Refused(Refusal::Unsound);
     if parts_sound(rest, s.clock, s.writers, &s.deps, s.readers) {
         if s.clock.ec == Epoch::LAST.number + 1 {
@@ -70,8 +39,8 @@ pub fn begin(m: Manager, rest: bool) -> Managed
             answer = Answer::Begun { epoch: tick.epoch };
         }
     }
-    Managed {
+    Kept {
+        state: s,
         answer: answer,
-        manager: s,
     }
 }

@@ -27,7 +27,7 @@ use Rattle.rules.proofs.Laws.Live.{purge-live}
 use Rattle.rules.proofs.Laws.Sound.{sound-step, refused-same}
 use Rattle.rules.proofs.Laws.WellFormed.{StoreOk, store-facts}
 use Rattle.store.specs.Kept.{storeOf, Left}
-use Rattle.store.specs.declared.Kept.{Kept}
+use Rattle.rules.specs.declared.Kept.{Kept}
 use Rattle.dispatch.specs.Dispatch.{Did}
 use Rattle.exports.specs.Numbered.{kinds, commandOf, onPurge, placeOf, repliedOf, endingOf, Answers}
 

@@ -19,7 +19,7 @@ use Rattle.lists.proofs.Laws.Parts.{length-part, over-part, take-part}
 use Rattle.rules.specs.Limits.{partitionsMax, areasMax, rowsMax, entriesMax}
 use Rattle.rules.specs.Span.{Span, entriesOf, wordsOf}
 use Rattle.rules.specs.Append.{deleteSpan, extended, appended, cleared}
-use Rattle.rules.specs.Store.{Store, managerOf, partitionAt, spansAt, laid, laidInPlace}
+use Rattle.rules.specs.Store.{stateOf, Store, managerOf, partitionAt, spansAt, laid, laidInPlace}
 use Rattle.rules.specs.declared.Entry.{Entry}
 use Rattle.rules.specs.declared.Partition.{Partition}
 use Rattle.rules.proofs.Laws.Span.{length-entriesOf}
@@ -51,10 +51,10 @@ pub written-laid : (p : ℕ) (ss : List Span) (plan : Plan) (batch : List ℕ) (
     → laidInPlace p ss st ≡ writtenBy p plan batch st
 unfolding laidInPlace laid writtenBy
 written-laid p ss plan batch st w = λ j. record {
-  state = record { manager = managerOf st; partitions = record {
+  state = stateOf (managerOf st) (record {
     at = set (st .state .partitions .at) p (record {
       area = partitionAt p st .area; rows = w .row-count j; entries = w .entry-count j });
-    spare = st .state .partitions .spare } };
+    spare = st .state .partitions .spare });
   rows = w .rows j; entries = w .entries j }
 
 -- ---- a partition of a sound store

@@ -12,6 +12,7 @@ use borrow.Author.Tests.{eqb-true, eq-eqb, ltb-true, ltb-false, le-leb, leb-fals
 use Rattle.lists.specs.Lists.{allOf, elem, part}
 use Rattle.lists.proofs.Laws.Bools.{split, split-eq, and-left, and-right, and-false, and-true, or-right}
 use Rattle.lists.proofs.Laws.Parts.{take-pad}
+use Rattle.rules.specs.Manager.{managerIn}
 use Rattle.rules.specs.Limits.{writersMax, rowsMax, entriesMax}
 use Rattle.rules.specs.WellFormed.{areasOk, endsOk, apart}
 use Rattle.rules.specs.declared.Clock.{Clock}
@@ -69,11 +70,11 @@ module _ (c : Clock) (js : List ℕ) where
 
 -- of what is asked of a manager it is the test of the lots
 pub rest-asked : (s : State) (es : List Entry) (m : ℕ)
-    → restAsked es m (askedOf (s .manager .clock) (s .manager .writers) (s .partitions)) ≡ restOk s es (length es) m
+    → restAsked es m (askedOf (s .clock) (s .writers) (s .partitions)) ≡ restOk s es (length es) m
 unfolding restAsked restOk
 rest-asked s es m =
-    let c = s .manager .clock in let js = epochsOf (s .manager .writers) in let ps = s .partitions in
+    let c = s .clock in let js = epochsOf (s .writers) in let ps = s .partitions in
     split (areasOk ps)
       (λ t. rw (t, take-pad writersMax 0 js, all-raised c js es (ps .at),
-        partitionsOk-each (s .manager) es ps js _ t refl refl, and-true (lengthsAre (length es) m)))
-      (λ n. rw (n, partitionsOk-shared (s .manager) es ps n, and-false (lengthsAre (length es) m)))
+        partitionsOk-each (managerIn s) es ps js _ t refl refl, and-true (lengthsAre (length es) m)))
+      (λ n. rw (n, partitionsOk-shared (managerIn s) es ps n, and-false (lengthsAre (length es) m)))

@@ -19,7 +19,7 @@ use Rattle.rules.specs.WellFormed.{wellFormed}
 use Rattle.rules.proofs.Laws.Views.{epochs-views}
 use Rattle.rules.specs.declared.Clock.{Clock}
 use Rattle.rules.specs.declared.Entry.{Entry}
-use Rattle.rules.specs.declared.Manager.{Manager}
+use Rattle.rules.specs.Manager.{Manager}
 use Rattle.rules.specs.declared.Partition.{Partition}
 use Rattle.rules.specs.declared.Partitions.{Partitions}
 use Rattle.rules.specs.declared.RwTxns.{RwTxns}

@@ -3,7 +3,9 @@
 use mathlib.Core.Path.{_≡_}
 use mathlib.Core.Bool.{_&&_}
 use borrow.Author.Needs.{needs}
+use Rattle.rules.specs.Manager.{managerIn}
 use Rattle.rules.specs.WellFormed.{managerOk}
+use Rattle.txn_find.proofs.Laws.Places.{sized}
 use Rattle.txn.proofs.Laws.Records.{parts-sound-is}
 use Rattle.plan_purge.specs.Purge.{purgePlan}
 use Rattle.plan_purge.proofs.purge_core.Statement.{statement}
@@ -18,9 +20,9 @@ abbrev start : tie.After-admit → tie.Start
 start a = tested a .before .before .before .before .before .before .before
 
 sound : (a : tie.After-admit) → let s = start a in
-    tested a .parts-sound .result ≡ (s .args .rest && managerOk (s .args .t1 .manager))
+    tested a .parts-sound .result ≡ (s .args .rest && managerOk (managerIn (s .args .t1)))
 sound a = let s = start a in
-    parts-sound-is (s .args .t1 .manager) (s .args .rest) (s .good .0 .1 .1 .0) (tested a .parts-sound .ensures)
+    parts-sound-is (managerIn (s .args .t1)) (s .args .rest) (sized (s .args .t1) (s .good .0)) (tested a .parts-sound .ensures)
 
 returns : tie.Need-returns
 unfolding purgePlan

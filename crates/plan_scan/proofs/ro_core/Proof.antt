@@ -5,9 +5,10 @@ use mathlib.Core.Path.{_≡_}
 use mathlib.Core.Bool.{_&&_}
 use native.Mathlib.Omega.{arith}
 use borrow.Author.Needs.{needs}
-use Rattle.rules.specs.Manager.{noRo}
+use Rattle.rules.specs.Manager.{noRo, managerIn}
 use Rattle.txn_find.proofs.Laws.Find.{reader-stands, reader-none}
 use Rattle.rules.specs.WellFormed.{managerOk}
+use Rattle.txn_find.proofs.Laws.Places.{sized}
 use Rattle.txn.proofs.Laws.Records.{parts-sound-is}
 use Rattle.plan_scan.specs.Scan.{roLook}
 use Rattle.plan_scan.proofs.ro_core.Statement.{statement}
@@ -22,28 +23,28 @@ abbrev start : tie.After-admit → tie.Start
 start a = tested a .before .before .before .before .before .before .before
 
 sound : (a : tie.After-admit) → let s = start a in
-    tested a .parts-sound .result ≡ (s .args .rest && managerOk (s .args .t1 .manager))
+    tested a .parts-sound .result ≡ (s .args .rest && managerOk (managerIn (s .args .t1)))
 sound a = let s = start a in
-    parts-sound-is (s .args .t1 .manager) (s .args .rest) (s .good .0 .1 .1 .0) (tested a .parts-sound .ensures)
+    parts-sound-is (managerIn (s .args .t1)) (s .args .rest) (sized (s .args .t1) (s .good .0)) (tested a .parts-sound .ensures)
 
 returns : tie.Need-returns
 unfolding roLook
 returns c = let t = c .before in let f = t .before .before in let k = f .before .before .before in
     let a = k .before .before in
     rw (← sound a, ← a .admit .ensures, k .admitted2 .given .1,
-      reader-none (start a .args .t1 .manager) _ (f .find-reader .ensures) (t .enum-told .given .1) .any)
+      reader-none (managerIn (start a .args .t1)) _ (f .find-reader .ensures) (t .enum-told .given .1) .any)
     (c .refused2 .ensures)
 
 mul-page : tie.Need-mul-page
 mul-page c = let j = c .before in let f = j .before .before in
     let s = start (f .before .before .before .before .before) in
-    omega (arith, reader-stands (s .args .t1 .manager) _ (s .good .0 .1 .1 .0) (f .find-reader .ensures) (j .j .given
+    omega (arith, reader-stands (managerIn (s .args .t1)) _ (sized (s .args .t1) (s .good .0)) (f .find-reader .ensures) (j .j .given
       .1) .below)
 
 element-copy-out-page : tie.Need-element-copy-out-page
 element-copy-out-page c = let j = c .before in let f = j .before .before in
     let s = start (f .before .before .before .before .before) in
-    omega (arith, reader-stands (s .args .t1 .manager) _ (s .good .0 .1 .1 .0) (f .find-reader .ensures) (j .j .given
+    omega (arith, reader-stands (managerIn (s .args .t1)) _ (sized (s .args .t1) (s .good .0)) (f .find-reader .ensures) (j .j .given
       .1) .below)
 
 returns-2 : tie.Need-returns-2
@@ -55,7 +56,7 @@ returns-3 : tie.Need-returns-3
 unfolding roLook
 returns-3 c = let v = c .before in let j = v .before .before in let f = j .before .before in
     let k = f .before .before .before in let a = k .before .before in let s = start a in
-    let w = reader-stands (s .args .t1 .manager) _ (s .good .0 .1 .1 .0) (f .find-reader .ensures) (j .j .given .1)
+    let w = reader-stands (managerIn (s .args .t1)) _ (sized (s .args .t1) (s .good .0)) (f .find-reader .ensures) (j .j .given .1)
         in rw (← sound a, ← a .admit .ensures, k .admitted2 .given .1, w .any, w .first noRo, ← v .page .ensures)
     (c .scan-partition .ensures)
 

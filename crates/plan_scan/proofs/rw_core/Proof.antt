@@ -11,13 +11,14 @@ use lib.Seq.{take-all}
 use borrow.Author.Needs.{needs}
 use Rattle.lists.specs.Lists.{part}
 use Rattle.rules.specs.Limits.{writersMax, depsMax}
-use Rattle.rules.specs.Manager.{noWriter, noRw, writersOf, view, opens, depsAt}
-use Rattle.rules.specs.declared.Manager.{Manager}
+use Rattle.rules.specs.Manager.{noWriter, noRw, writersOf, view, opens, depsAt, managerIn}
+use Rattle.rules.specs.Manager.{Manager}
 use Rattle.visible.specs.declared.Deps.{Deps}
 use Rattle.visible.specs.View.{depsWith}
 use Rattle.txn_find.specs.Find.{rowAt}
 use Rattle.txn_find.proofs.Laws.Find.{Stands, writer-stands, writer-none}
 use Rattle.rules.specs.WellFormed.{managerOk}
+use Rattle.txn_find.proofs.Laws.Places.{sized}
 use Rattle.txn.proofs.Laws.Records.{parts-sound-is}
 use Rattle.plan_scan.specs.Scan.{rwLook}
 use Rattle.plan_scan.proofs.rw_core.Statement.{statement}
@@ -48,27 +49,27 @@ abbrev start : tie.After-admit → tie.Start
 start a = tested a .before .before .before .before .before .before .before
 
 sound : (a : tie.After-admit) → let s = start a in
-    tested a .parts-sound .result ≡ (s .args .rest && managerOk (s .args .t1 .manager))
+    tested a .parts-sound .result ≡ (s .args .rest && managerOk (managerIn (s .args .t1)))
 sound a = let s = start a in
-    parts-sound-is (s .args .t1 .manager) (s .args .rest) (s .good .0 .1 .1 .0) (tested a .parts-sound .ensures)
+    parts-sound-is (managerIn (s .args .t1)) (s .args .rest) (sized (s .args .t1) (s .good .0)) (tested a .parts-sound .ensures)
 
 returns : tie.Need-returns
 unfolding rwLook
 returns c = let t = c .before in let f = t .before .before in let k = f .before .before .before in
     let a = k .before .before in
     rw (← sound a, ← a .admit .ensures, k .admitted2 .given .1,
-      writer-none (start a .args .t1 .manager) _ (f .find-writer .ensures) (t .enum-told .given .1) .any)
+      writer-none (managerIn (start a .args .t1)) _ (f .find-writer .ensures) (t .enum-told .given .1) .any)
     (c .refused2 .ensures)
 
 mul-n : tie.Need-mul-n
 mul-n c = let j = c .before in let f = j .before .before in let s = start (f .before .before .before .before .before) in
-    omega (arith, writer-stands (s .args .t1 .manager) _ (s .good .0 .1 .1 .0) (f .find-writer .ensures) (j .j .given
+    omega (arith, writer-stands (managerIn (s .args .t1)) _ (sized (s .args .t1) (s .good .0)) (f .find-writer .ensures) (j .j .given
       .1) .below)
 
 element-copy-out-n : tie.Need-element-copy-out-n
 element-copy-out-n c = let j = c .before in let f = j .before .before in
     let s = start (f .before .before .before .before .before) in
-    omega (arith, writer-stands (s .args .t1 .manager) _ (s .good .0 .1 .1 .0) (f .find-writer .ensures) (j .j .given
+    omega (arith, writer-stands (managerIn (s .args .t1)) _ (sized (s .args .t1) (s .good .0)) (f .find-writer .ensures) (j .j .given
       .1) .below)
 
 returns-2 : tie.Need-returns-2
@@ -81,8 +82,8 @@ unfolding rwLook
 returns-3 c = let ip = c .before in let ro = ip .before in
     let j = ro .before .before .before .before .before in let f = j .before .before in
     let k = f .before .before .before in let a = k .before .before in let s = start a in
-    let m = s .args .t1 .manager in
-    let w = writer-stands m _ (s .good .0 .1 .1 .0) (f .find-writer .ensures) (j .j .given .1) in
+    let m = managerIn (s .args .t1) in
+    let w = writer-stands m _ (sized (s .args .t1) (s .good .0)) (f .find-writer .ensures) (j .j .given .1) in
     let e = deps-read m (s .args .i) w (ro .row-of .ensures) (ip .in-places .ensures) in
     rw (← sound a, ← a .admit .ensures, k .admitted2 .given .1, w .any)
       (rw (← e) (c .scan-partition .ensures))

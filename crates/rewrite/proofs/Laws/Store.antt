@@ -24,7 +24,7 @@ use Rattle.rules.specs.Hides.{hidden}
 use Rattle.rules.specs.Rewrite.{joined, hasEpoch, rolledBack, purgedIn, purged, skips}
 use Rattle.rules.specs.WellFormed.{endsOk, epochOk}
 use Rattle.rules.specs.declared.Entry.{Entry}
-use Rattle.rules.specs.declared.Manager.{Manager}
+use Rattle.rules.specs.Manager.{Manager}
 use Rattle.rules.proofs.Laws.Span.{end-ok, endsOk-le, length-entriesOf}
 use Rattle.rules.proofs.Laws.Rewrite.{words-joined}
 use Rattle.rules.proofs.Laws.SpansOk.{MarkOk, EpochOk}

@@ -20,7 +20,7 @@ use Rattle.rules.specs.Manager.{Writer, noRw, noRo, isOpen, writersOf, w
 use Rattle.rules.specs.Begin.{createdManager, begunTxn, begunManager}
 use Rattle.rules.specs.WellFormed.{depsOk, statusOk, unusedRw, unusedRo, managerOk}
 use Rattle.rules.specs.declared.Clock.{Clock}
-use Rattle.rules.specs.declared.Manager.{Manager}
+use Rattle.rules.specs.Manager.{Manager}
 use Rattle.rules.proofs.Laws.Manager.{epochs, opensBelow, ClockFacts, WriterFacts, status-waits}
 use Rattle.rules.proofs.Laws.Manager.{status-open, waits-status, manager-facts, manager-ok, writers-with}
 use Rattle.rules.proofs.Laws.Views.{Fits, writers-length}

@@ -21,7 +21,7 @@ use Rattle.rules.specs.Answers.{accepted}
 use Rattle.rules.specs.WellFormed.{wellFormed}
 use Rattle.rules.specs.Calls.{refuse, within, createAnswer, beginAnswer, closeAnswer, beginRoAnswer}
 use Rattle.rules.specs.Calls.{advanceLseAnswer, appendAnswer, clearAnswer, purgeAnswer}
-use Rattle.rules.specs.declared.Manager.{Manager}
+use Rattle.rules.specs.Manager.{Manager}
 use Rattle.rules.specs.declared.Refusal.{Refusal}
 use Rattle.rules.specs.declared.Refusal.the-variants.{UnknownPartition, NotOpen}
 use Rattle.rules.specs.declared.Refusal.the-variants.{OutOfRange, Unsound, Exhausted, TxnsFull}

@@ -23,7 +23,7 @@ use Rattle.rules.specs.Close.{waitingTxn, committedTxns, droppedTxns, un
 use Rattle.rules.specs.Close.{committedManager, rolledBackManager}
 use Rattle.rules.specs.WellFormed.{depsOk, managerOk}
 use Rattle.rules.specs.declared.Clock.{Clock}
-use Rattle.rules.specs.declared.Manager.{Manager}
+use Rattle.rules.specs.Manager.{Manager}
 use Rattle.rules.proofs.Laws.Manager.{epochs, opensBelow, WriterFacts, ManagerFacts, Waits}
 use Rattle.rules.proofs.Laws.Manager.{status-waits}
 use Rattle.rules.proofs.Laws.Manager.{status-open, waits-status, manager-facts, manager-ok}

@@ -23,7 +23,7 @@ use Rattle.rules.specs.Close.{rolledBackManager}
 use Rattle.rules.specs.ReadOnly.{begunRoManager, endedRoManager}
 use Rattle.rules.specs.Safe.{advancedManager}
 use Rattle.rules.specs.WellFormed.{epochOk, managerOk}
-use Rattle.rules.specs.declared.Manager.{Manager}
+use Rattle.rules.specs.Manager.{Manager}
 use Rattle.rules.proofs.Laws.Manager.{epochs, manager-facts, opens-epoch, open-range}
 use Rattle.rules.proofs.Laws.Views.{epochs-with}
 use Rattle.rules.proofs.Laws.Close.{kept, settled-rises, epochs-committed}

@@ -27,7 +27,7 @@ use Rattle.rules.specs.Store.{createdStore, rolledBackBelow, purgedStore
 use Rattle.rules.specs.WellFormed.{epochOk, lengthsOk}
 use Rattle.rules.specs.Ledger.{Line, row, delete, Ledger, newLedger, linesAt, withLines, withAdded}
 use Rattle.rules.specs.Ledger.{withBegun, withOpened, withOpenRw, withOpenRo, without}
-use Rattle.rules.specs.declared.Manager.{Manager}
+use Rattle.rules.specs.Manager.{Manager}
 use Rattle.rules.proofs.Laws.Begin.{created-ok as createdManager-ok}
 use Rattle.rules.proofs.Laws.Epochs.{hasOpen-epochOk, purged-epochOk, begun-epochOk, committed-epochOk}
 use Rattle.rules.proofs.Laws.Epochs.{rolledBack-epochOk, begunRo-epochOk, endedRo-epochOk}

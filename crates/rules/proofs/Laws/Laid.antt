@@ -16,7 +16,7 @@ use Rattle.lists.proofs.Laws.Parts.{length-over, over-part, part-over-same, par
 use Rattle.rules.specs.Limits.{partitionsMax, areasMax, rowsMax, entriesMax}
 use Rattle.rules.specs.Span.{Span, spans, entriesOf, wordsOf}
 use Rattle.rules.specs.Store.{Store, managerOf, noPartition, partitionAt, entriesAt, rowsAt, spansAt}
-use Rattle.rules.specs.Store.{laid}
+use Rattle.rules.specs.Store.{stateOf, laid}
 use Rattle.rules.specs.Store.{laidInPlace, laidInSpare}
 use Rattle.rules.specs.declared.Partition.{Partition}
 use Rattle.rules.specs.declared.Partitions.{Partitions}
@@ -204,6 +204,5 @@ module _ (st : Store) (ok : StoreOk st) (p : ℕ) (h : p < partitionsMax) where
   pub laid-same : laidInPlace p (spansAt p st) st ≡ st
   unfolding laidInPlace laid
   laid-same = λ i. record {
-    state = record {
-      manager = managerOf st; partitions = record { at = at-same i; spare = st .state .partitions .spare } };
+    state = stateOf (managerOf st) (record { at = at-same i; spare = st .state .partitions .spare });
     rows = rows-same i; entries = entries-same i }

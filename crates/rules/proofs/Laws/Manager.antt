@@ -24,7 +24,7 @@ use Rattle.rules.specs.WellFormed.{clockOk, roomOk, depsOk, statusOk, un
 use Rattle.rules.specs.WellFormed.{readersOk, managerOk}
 use Rattle.rules.specs.declared.Clock.{Clock}
 use Rattle.rules.specs.declared.RoTxn.{RoTxn}
-use Rattle.rules.specs.declared.Manager.{Manager}
+use Rattle.rules.specs.Manager.{Manager}
 use Rattle.rules.proofs.Laws.Views.{Fits, views-fit, writersOf-with, spares-with, rooms-with}
 
 abbrev pub epochs : List Writer → List ℕ

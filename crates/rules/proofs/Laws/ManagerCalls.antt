@@ -24,7 +24,7 @@ use Rattle.rules.specs.Step.{manage, step}
 use Rattle.rules.specs.Ledger.{Ledger, heard}
 use Rattle.rules.specs.Claim.{eventOf, isOpenIn}
 use Rattle.rules.specs.Promises.{isLoad, isPage, spares}
-use Rattle.rules.specs.declared.Manager.{Manager}
+use Rattle.rules.specs.Manager.{Manager}
 use Rattle.rules.specs.declared.ManagerCall.{ManagerCall}
 use Rattle.rules.specs.declared.ManagerCall.the-variants.{Begin, Commit, BeginRo, EndRo, AdvanceLse}
 use Rattle.rules.specs.declared.Reader.{Reader}

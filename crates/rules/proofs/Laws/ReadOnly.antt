@@ -17,7 +17,7 @@ use Rattle.rules.specs.Manager.{readersOf, hasTicket}
 use Rattle.rules.specs.ReadOnly.{snapshotEpoch, begunRoManager, endedRoManager}
 use Rattle.rules.specs.WellFormed.{managerOk}
 use Rattle.rules.specs.declared.RoTxn.{RoTxn}
-use Rattle.rules.specs.declared.Manager.{Manager}
+use Rattle.rules.specs.Manager.{Manager}
 use Rattle.rules.proofs.Laws.Manager.{tickets, ReaderFacts, manager-facts, manager-ok, readers-with}
 
 begun-readers : (lse lce next e : ℕ) (ps : List RoTxn) → ReaderFacts lse lce next ps → lse ≤ e → e ≤ lce

@@ -24,7 +24,7 @@ use Rattle.rules.specs.Safe.{blocked, greatestTarget, targetOf, advanced
 use Rattle.rules.specs.WellFormed.{depsOk, managerOk}
 use Rattle.rules.specs.Calls.{isReader, seesOf, appliesOf}
 use Rattle.rules.specs.declared.RoTxn.{RoTxn}
-use Rattle.rules.specs.declared.Manager.{Manager}
+use Rattle.rules.specs.Manager.{Manager}
 use Rattle.rules.specs.declared.Reader.{Reader}
 use Rattle.rules.specs.declared.Reader.the-variants.{Rw, Ro}
 use Rattle.rules.proofs.Laws.Manager.{ManagerFacts, status-waits, manager-facts, manager-ok, opens-open}

@@ -28,7 +28,7 @@ use Rattle.rules.specs.Calls.{purgeAnswer}
 use Rattle.rules.specs.Step.{scan, advanceLse, purge, areaRows, step}
 use Rattle.rules.specs.Ledger.{shows}
 use Rattle.rules.specs.Claim.{wordsScanned}
-use Rattle.rules.specs.declared.Manager.{Manager}
+use Rattle.rules.specs.Manager.{Manager}
 use Rattle.rules.specs.declared.Reader.{Reader}
 use Rattle.rules.specs.declared.Reader.the-variants.{Rw, Ro}
 use Rattle.rules.specs.declared.Refusal.the-variants.{NotOpen}

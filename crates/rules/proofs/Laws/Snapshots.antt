@@ -20,7 +20,7 @@ use Rattle.rules.specs.Ledger.{withLines}
 use Rattle.rules.specs.Ledger.{withBegun, withOpened, withOpenRw, withOpenRo}
 use Rattle.rules.specs.Promises.{isLoad, isPage}
 use Rattle.rules.specs.Claim.{isOpenIn}
-use Rattle.rules.specs.declared.Manager.{Manager}
+use Rattle.rules.specs.Manager.{Manager}
 use Rattle.rules.specs.declared.Reader.{Reader}
 use Rattle.rules.specs.declared.Reader.the-variants.{Rw, Ro}
 use Rattle.rules.proofs.Laws.Manager.{manager-facts}

@@ -19,7 +19,7 @@ use Rattle.rules.specs.Span.{Span, isDelete, wordsOf}
 use Rattle.rules.specs.Append.{rowsSpan, deleteSpan, extended, appended, cleared}
 use Rattle.rules.specs.Rewrite.{joined, rolledBack, purgedIn, purged}
 use Rattle.rules.specs.WellFormed.{epochOk}
-use Rattle.rules.specs.declared.Manager.{Manager}
+use Rattle.rules.specs.Manager.{Manager}
 use Rattle.rules.proofs.Laws.Rewrite.{Apart, Joins, apart-joined, words-joined, length-joined}
 use Rattle.rules.proofs.Laws.Rewrite.{All-joined}
 use Rattle.rules.proofs.Laws.Rewrite.{words-keepIf, words-purgedIn, length-purgedIn, All-purgedIn}

@@ -17,7 +17,7 @@ use Rattle.rules.specs.Limits.{rowsMax, entriesMax}
 use Rattle.rules.specs.Span.{Span, isDelete, spans, entriesOf, wordsOf}
 use Rattle.rules.specs.WellFormed.{epochOk, entryOk, endsOk, alike, apart}
 use Rattle.rules.specs.declared.Entry.{Entry}
-use Rattle.rules.specs.declared.Manager.{Manager}
+use Rattle.rules.specs.Manager.{Manager}
 use Rattle.rules.proofs.Laws.Span.{end-ok, length-spans, length-entriesOf, entries-spans, words-spans}
 use Rattle.rules.proofs.Laws.Rewrite.{joins, Apart}
 use Rattle.rules.proofs.Laws.SpansOk.{MarkOk, EpochOk, Filled, SpansOk}

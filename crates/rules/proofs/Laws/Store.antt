@@ -18,7 +18,7 @@ use Rattle.rules.specs.Store.{Store, managerOf, partitionAt, entriesAt, 
 use Rattle.rules.specs.Store.{laidInPlace}
 use Rattle.rules.specs.Store.{createdStore, rolledBackAt, rolledBackBelow, purgedStore}
 use Rattle.rules.specs.WellFormed.{managerOk, epochOk, lengthsOk}
-use Rattle.rules.specs.declared.Manager.{Manager}
+use Rattle.rules.specs.Manager.{Manager}
 use Rattle.rules.proofs.Laws.Rewrite.{rolledBack-absent}
 use Rattle.rules.proofs.Laws.SpansOk.{SpansOk, spans-ok-none, spans-ok-manager, spans-ok-appended}
 use Rattle.rules.proofs.Laws.SpansOk.{spans-ok-cleared, spans-ok-rolledBack, spans-ok-purged}

@@ -31,7 +31,7 @@ use Rattle.rules.specs.Promises.{ledgerSees, ledgerApplies}
 use Rattle.rules.specs.Claim.{isOpenIn, shownBy}
 use Rattle.rules.specs.WellFormed.{managerOk}
 use Rattle.rules.specs.declared.RoTxn.{RoTxn}
-use Rattle.rules.specs.declared.Manager.{Manager}
+use Rattle.rules.specs.Manager.{Manager}
 use Rattle.rules.specs.declared.Reader.{Reader}
 use Rattle.rules.specs.declared.Reader.the-variants.{Rw, Ro}
 use Rattle.rules.proofs.Laws.Manager.{epochs, opensBelow, manager-facts, status-waits}

@@ -21,7 +21,7 @@ use Rattle.rules.specs.Manager.{Writer, noWriter, isOpen, opens, writers
 use Rattle.rules.specs.Begin.{createdManager, begunTxn, begunManager}
 use Rattle.rules.specs.Sees.{seesRw}
 use Rattle.rules.specs.Ledger.{Snapshot, Ledger, newLedger, named, withBegun}
-use Rattle.rules.specs.declared.Manager.{Manager}
+use Rattle.rules.specs.Manager.{Manager}
 use Rattle.rules.proofs.Laws.Manager.{epochs, manager-facts}
 use Rattle.rules.proofs.Laws.Views.{writersOf-with, writers-length}
 use Rattle.rules.proofs.Laws.Begin.{created-ok, begun-writers, begun-ok}

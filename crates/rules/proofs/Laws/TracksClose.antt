@@ -22,7 +22,7 @@ use Rattle.rules.specs.Close.{rolledBackManager}
 use Rattle.rules.specs.Sees.{seesRw}
 use Rattle.rules.specs.Ledger.{Snapshot, Ledger, noSnapshot, named, without, marksOf, withOpenRw}
 use Rattle.rules.specs.WellFormed.{managerOk}
-use Rattle.rules.specs.declared.Manager.{Manager}
+use Rattle.rules.specs.Manager.{Manager}
 use Rattle.rules.proofs.Laws.Manager.{manager-facts, opens-open, opens-epoch}
 use Rattle.rules.proofs.Laws.Views.{writersOf-with}
 use Rattle.rules.proofs.Laws.Close.{Unsettled, Moved, kept, kept-fit, committedTxn, settled-rises, settled-is}

@@ -23,7 +23,7 @@ use Rattle.rules.specs.Ledger.{Line, Snapshot, Ledger, noSnapshot, named
 use Rattle.rules.specs.Ledger.{withOpenRo}
 use Rattle.rules.specs.Ledger.{withOpened}
 use Rattle.rules.specs.declared.RoTxn.{RoTxn}
-use Rattle.rules.specs.declared.Manager.{Manager}
+use Rattle.rules.specs.Manager.{Manager}
 use Rattle.rules.proofs.Laws.Manager.{tickets, ReaderFacts, manager-facts, readersOf-with}
 use Rattle.rules.proofs.Laws.ReadOnly.{begunRo-ok, endedRo-ok}
 use Rattle.rules.proofs.Laws.Safe.{advanced-ok}

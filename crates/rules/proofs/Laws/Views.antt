@@ -23,7 +23,7 @@ use Rattle.rules.specs.Manager.{Writer, noWriter, noRw, rwTxn, recordsOf
 use Rattle.rules.specs.Manager.{withWriters}
 use Rattle.rules.specs.WellFormed.{zeros, roomOk, sparesZero}
 use Rattle.rules.specs.declared.RwTxn.{RwTxn}
-use Rattle.rules.specs.declared.Manager.{Manager}
+use Rattle.rules.specs.Manager.{Manager}
 
 -- ---- what a view keeps of the records
 

@@ -20,7 +20,7 @@ use Rattle.rules.specs.Store.{Store, managerOf, noPartition, partitionAt
 use Rattle.rules.specs.WellFormed.{managerOk, areasOk, entryOk, endsOk, apart, partitionOk, lengthsOk}
 use Rattle.rules.specs.WellFormed.{wellFormed}
 use Rattle.rules.specs.declared.Entry.{Entry}
-use Rattle.rules.specs.declared.Manager.{Manager}
+use Rattle.rules.specs.Manager.{Manager}
 use Rattle.rules.specs.declared.Partition.{Partition}
 use Rattle.rules.specs.declared.Partitions.{Partitions}
 use Rattle.rules.proofs.Laws.Span.{length-spans, entries-spans, words-spans}

@@ -15,25 +15,25 @@ use Rattle.rules.specs.Store.{withManager, createdStore}
 use Rattle.rules.specs.declared.Answer.{Answer}
 use Rattle.rules.specs.declared.ManagerCall.{ManagerCall}
 use Rattle.rules.specs.declared.Entry.{Entry}
-use Rattle.rules.specs.declared.Manager.{Manager}
+use Rattle.rules.specs.Manager.{Manager, managerIn}
 use Rattle.rules.specs.declared.State.{State}
 use Rattle.partition_sound.specs.Sound.{partitionsOk}
 use Rattle.partition_sound.specs.Asked.{askedOf, lengthsAre, restOk, restAsked}
 use Rattle.partition_sound.proofs.Laws.Asked.{rest-asked}
 use Rattle.partition_sound.proofs.Laws.Sound.{wellFormed-is}
-use Rattle.store.specs.Kept.{storeOf, Left, createKept, keptOf, managerKept}
+use Rattle.txn.specs.Kept.{keptOf}
+use Rattle.store.specs.Kept.{storeOf, Left, createKept, managerKept}
 
 -- whether the lots are sound, as a call asks it of the books
 abbrev pub restIn : State → List Entry → List ℕ → Bool
-restIn s es rs = restAsked es (length rs) (askedOf (s .manager .clock) (s .manager .writers) (s .partitions))
+restIn s es rs = restAsked es (length rs) (askedOf (s .clock) (s .writers) (s .partitions))
 
 -- with the manager's own test it is rules' wellFormed
 pub sound-is : (s : State) (es : List Entry) (rs : List ℕ)
-    → restIn s es rs && managerOk (s .manager) ≡ wellFormed (storeOf s rs es)
+    → restIn s es rs && managerOk (managerIn s) ≡ wellFormed (storeOf s rs es)
 unfolding restOk lengthsAre lengthsOk
 sound-is s es rs = rw (rest-asked s es (length rs), wellFormed-is (storeOf s rs es))
-    (exchange (lengthsAre (length es) (length rs)) (partitionsOk (s .manager) es (s .partitions)) (managerOk (s
-        .manager))) where
+    (exchange (lengthsAre (length es) (length rs)) (partitionsOk (managerIn s) es (s .partitions)) (managerOk (managerIn s))) where
     exchange : (a b c : Bool) → (a && b) && c ≡ (a && c) && b
     exchange true b c = and-comm b c
     exchange false b c = refl
@@ -47,7 +47,7 @@ pub manage-left : (s : State) (es : List Entry) (rs : List ℕ) (c : ManagerCall
     → Left (step (manage c) (storeOf s rs es)) (managerKept s (restIn s es rs) c) rs es
 unfolding step
 manage-left s es rs c = rw (sound-is s es rs)
-    (refl, kept-left (managerAnswer c (wellFormed (storeOf s rs es)) (s .manager)) (managerAfter c (s .manager)) s es
+    (refl, kept-left (managerAnswer c (wellFormed (storeOf s rs es)) (managerIn s)) (managerAfter c (managerIn s)) s es
       rs)
 
 pub create-left : (s : State) (es : List Entry) (rs : List ℕ) (a : ℕ)

@@ -12,7 +12,7 @@ use Rattle.rules.specs.declared.Entry.{Entry}
 use Rattle.rules.specs.declared.State.{State}
 use Rattle.store.specs.Kept.{storeOf, Left}
 use Rattle.store.specs.Part.{partOf}
-use Rattle.store.specs.declared.Kept.{Kept}
+use Rattle.rules.specs.declared.Kept.{Kept}
 
 -- of any store and any number of a partition
 pub part-purge : (p : ℕ) (st : Store)

@@ -13,10 +13,11 @@ use borrow.Author.Tests.{lt-ltb, le-ltb, le-leb, ltb-true, ltb-false, leb-false}
 use Rattle.lists.specs.Lists.{over}
 use Rattle.lists.proofs.Laws.All.{All}
 use Rattle.lists.proofs.Laws.Bools.{split, split-eq}
+use Rattle.rules.specs.Manager.{managerIn}
 use Rattle.rules.specs.Limits.{partitionsMax, areasMax, rowsMax, entriesMax}
 use Rattle.rules.specs.Span.{Span, spans, entriesOf, wordsOf}
 use Rattle.rules.specs.Rewrite.{purgedIn, purged, skips}
-use Rattle.rules.specs.Store.{Store, entriesAt, rowsAt, spansAt, laid, laidInSpare, purgedStore}
+use Rattle.rules.specs.Store.{withPartitionsIn, Store, entriesAt, rowsAt, spansAt, laid, laidInSpare, purgedStore}
 use Rattle.rules.specs.Answers.{accepted}
 use Rattle.rules.specs.WellFormed.{endsOk, wellFormed}
 use Rattle.rules.specs.Calls.{purgeAnswer}
@@ -47,7 +48,7 @@ use Rattle.plan_purge.specs.Purge.{unwrittenPurge, planAt, movedPurge, purgePla
 use Rattle.plan_purge.specs.declared.Purge.{Purge}
 use Rattle.store.specs.Kept.{storeOf, Left}
 use Rattle.store.specs.Done.{donePurge}
-use Rattle.store.specs.declared.Kept.{Kept}
+use Rattle.rules.specs.declared.Kept.{Kept}
 use Rattle.store.proofs.Laws.Kept.{restIn, sound-is}
 use Rattle.store.proofs.Laws.Scan.{entries-facts, words}
 
@@ -105,7 +106,7 @@ module _ (s : State) (es : List Entry) (rs : List ℕ) (ok : StoreOk (storeOf s 
   ends = rw in-use (entries-facts s es rs ok p h .ends)
 
   epochs : All Dated (spans 0 (entriesIn (areaAt es (partitionOf p s))) (rowsAt p (storeOf s rs es)))
-  epochs = rw spans-are (dated (s .manager) (spansAt p (storeOf s rs es)) (ok .partition p h .spans-ok .epochs))
+  epochs = rw spans-are (dated (managerIn s) (spansAt p (storeOf s rs es)) (ok .partition p h .spans-ok .epochs))
 
   skips-are : (l : ℕ) → skips l (spansIn (areaAt es (partitionOf p s))) ≡ skips l (spansAt p (storeOf s rs es))
   skips-are l = let q = partitionOf p s in
@@ -169,8 +170,8 @@ module _ (s : State) (es : List Entry) (rs : List ℕ) (ok : StoreOk (storeOf s 
       let ps : movedTo p (length (wordsOf ts)) (length ts) (s .partitions)
           ≡ laidInSpare p ts (storeOf s rs es) .state .partitions = rw (lt-ltb p partitionsMax h) in
       (ap (λ d. Rewritten (d .rows)) (done-is l),
-        λ j. storeOf (record { manager = s .manager; partitions =
-            (ap (λ d. movedTo p (d .rows) (d .area .count) (s .partitions)) (done-is l) ∙ ps) j })
+        λ j. storeOf (withPartitionsIn
+            ((ap (λ d. movedTo p (d .rows) (d .area .count) (s .partitions)) (done-is l) ∙ ps) j) s)
           (rows-are l j) (entries-are l j))
 
 -- ---- purge
@@ -180,7 +181,7 @@ pub purge-left : (s : State) → length (s .partitions .at) ≡ partitionsMax �
       (purgePlan s (restIn s es rs) (loadedArea es (s .partitions) p) (length es) (length rs) p)
 unfolding step purgeAnswer purgedStore purgePlan
 purge-left s n es rs p =
-    let st = storeOf s rs es in let l = s .manager .clock .lse in let next = purgedStore p st in
+    let st = storeOf s rs es in let l = s .clock .lse in let next = purgedStore p st in
     rw (sound-is s es rs) (split (wellFormed st)
   (λ t. let ok = store-facts st n t in rw (t, loaded-area es (ok .entries-length) (s .partitions) p)
     (split (leb partitionsMax p)

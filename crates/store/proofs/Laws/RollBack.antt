@@ -1,4 +1,4 @@
--- What a roll back leaves is what step leaves. Definitions: specs/Kept.antt `rollBackManaged`, specs/Done.antt.
+-- What a roll back leaves is what step leaves. Definitions: specs/Kept.antt `rollBackKept`, specs/Done.antt.
 -- In order: the areas and partitions after it; the call.
 -- Assumes nothing.
 use mathlib.Core.Path.{_≡_, refl, _∙_}
@@ -7,6 +7,8 @@ use mathlib.Core.List.{List}
 use Prim.Native.Nat.{ℕ}
 use lib.ListN.{length}
 use Rattle.lists.proofs.Laws.Bools.{split}
+use Rattle.rules.specs.Store.{stateOf, withPartitionsIn}
+use Rattle.rules.specs.Manager.{managerIn}
 use Rattle.rules.specs.Limits.{partitionsMax}
 use Rattle.rules.specs.Close.{rolledBackManager}
 use Rattle.rules.specs.Answers.{accepted}
@@ -20,7 +22,7 @@ use Rattle.rules.proofs.Laws.Calls.{close-passed}
 use Rattle.rules.proofs.Laws.WellFormed.{store-facts}
 use Rattle.undo.specs.Lots.{rollingOf, rolledLots}
 use Rattle.undo.proofs.Laws.Lots.{lots-rolled, lots-left}
-use Rattle.store.specs.Kept.{storeOf, Left, rollBackManaged}
+use Rattle.store.specs.Kept.{storeOf, Left, rollBackKept}
 use Rattle.store.specs.Done.{doneRollBack}
 use Rattle.store.proofs.Laws.Kept.{restIn, sound-is}
 
@@ -30,18 +32,17 @@ Rolls es rs ps i go ps′ es′ rs′ = rollingOf es′ rs′ ps′ ≡ rolledLo
 
 module _ (s : State) (n : length (s .partitions .at) ≡ partitionsMax) (es : List Entry) (rs : List ℕ) (i : ℕ)
     (ps′ : Partitions) (es′ : List Entry) (rs′ : List ℕ) where
-  pub roll-back-left : Rolls es rs (s .partitions) i (accepted (rollBackManaged s (restIn s es rs) i .answer)) ps′ es′
+  pub roll-back-left : Rolls es rs (s .partitions) i (accepted (rollBackKept s (restIn s es rs) i .answer)) ps′ es′
       rs′
-      → Left (step (rollback i) (storeOf s rs es)) (doneRollBack (rollBackManaged s (restIn s es rs) i) ps′) rs′ es′
+      → Left (step (rollback i) (storeOf s rs es)) (doneRollBack (rollBackKept s (restIn s es rs) i) ps′) rs′ es′
   unfolding step
   roll-back-left rel =
-      let st = storeOf s rs es in let next = rolledBackManager i (s .manager) in
-      let a = closeAnswer i (wellFormed st) (s .manager) next in
+      let st = storeOf s rs es in let next = rolledBackManager i (managerIn s) in
+      let a = closeAnswer i (wellFormed st) (managerIn s) next in
       let r = rw (sound-is s es rs) at rel in
       rw (sound-is s es rs) (split (accepted a)
-      (λ t. let ok = store-facts st n (close-passed i (wellFormed st) (s .manager) next t .sound) in
+      (λ t. let ok = store-facts st n (close-passed i (wellFormed st) (managerIn s) next t .sound) in
         let e = (rw t at r) ∙ lots-rolled i st ok in
-        rw t (refl, λ j. storeOf (record { manager = next; partitions = e j .places }) (e j .rows) (e j .entries)))
+        rw t (refl, λ j. storeOf (stateOf next (e j .places)) (e j .rows) (e j .entries)))
       (λ f. let e = (rw f at r) ∙ lots-left i (rollingOf es rs (s .partitions)) in
-        rw f (refl, λ j. storeOf (record { manager = s .manager; partitions = e j .places }) (e j .rows)
-          (e j .entries))))
+        rw f (refl, λ j. storeOf (withPartitionsIn (e j .places) s) (e j .rows) (e j .entries))))

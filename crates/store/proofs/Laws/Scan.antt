@@ -40,7 +40,7 @@ use Rattle.area.proofs.Laws.Load.{loaded-area}
 use Rattle.admit.specs.Admit.{partitionOf}
 use Rattle.lists.proofs.Laws.Parts.{take-pad}
 use Rattle.rules.specs.Limits.{depsMax}
-use Rattle.rules.specs.Manager.{depsAt}
+use Rattle.rules.specs.Manager.{depsAt, managerIn}
 use Rattle.rules.specs.Sees.{seesRw, appliesRw}
 use Rattle.plan_scan.specs.Scan.{noBits, refusedLook, lookAt, rwView, roView, lookBy, rwLook, roLook, copied}
 use Rattle.plan_scan.specs.declared.Look.{Look}
@@ -82,10 +82,10 @@ module _ (s : State) (es : List Entry) (rs : List ℕ) (ok : StoreOk (storeOf s 
       rw (lt-ltb (q .area) areasMax (ok .areas .inside p h))
         (take-take (q .entries) entriesMax (drop (entriesMax * q .area) es) (omega arith))
 
-  pub entries-facts : EntriesOk (s .manager) (partitionOf p s .rows) (entriesAt p (storeOf s rs es))
+  pub entries-facts : EntriesOk (managerIn s) (partitionOf p s .rows) (entriesAt p (storeOf s rs es))
   entries-facts = let part = ok .partition p h in
       rw (part .entries-are, ← part .row-count)
-        at (entries-ok (s .manager) (spansAt p (storeOf s rs es)) (part .spans-ok))
+        at (entries-ok (managerIn s) (spansAt p (storeOf s rs es)) (part .spans-ok))
 
   scans : scanOk (areaAt es (partitionOf p s)) (partitionOf p s .rows) noBits ≡ true
   scans = let o = entries-facts in let q = partitionOf p s in
@@ -95,15 +95,15 @@ module _ (s : State) (es : List Entry) (rs : List ℕ) (ok : StoreOk (storeOf s 
   pub words : length (rowsAt p (storeOf s rs es)) ≡ partitionOf p s .rows
   words = let part = ok .partition p h in ap length (sym (part .words-are)) ∙ sym (part .row-count)
 
-  module _ (r : Reader) (v : View) (sees : seesView v ≡ seesOf r (s .manager))
-      (applies : appliesView v ≡ appliesOf r (s .manager)) where
+  module _ (r : Reader) (v : View) (sees : seesView v ≡ seesOf r (managerIn s))
+      (applies : appliesView v ≡ appliesOf r (managerIn s)) where
     same-flags : spanFlags v (areaAt es (partitionOf p s)) (rowsAt p (storeOf s rs es)) ≡ flagsAt r p (storeOf s rs es)
     unfolding flagsAt spansAt
     same-flags = rw (sees, applies, table-entries)
 
     flags-rows : length (flagsAt r p (storeOf s rs es)) ≡ partitionOf p s .rows
     unfolding flagsAt
-    flags-rows = length-flags (seesOf r (s .manager)) (appliesOf r (s .manager)) (spansAt p (storeOf s rs es))
+    flags-rows = length-flags (seesOf r (managerIn s)) (appliesOf r (managerIn s)) (spansAt p (storeOf s rs es))
         ∙ sym (ok .partition p h .row-count)
 
     ones-are : scanned v (areaAt es (partitionOf p s)) (partitionOf p s .rows) noBits .ones
@@ -133,16 +133,16 @@ module _ (s : State) (es : List Entry) (rs : List ℕ) (ok : StoreOk (storeOf s 
             (ltb-false (length lent) n f), refl))
 
 look-left : (s : State) → length (s .partitions .at) ≡ partitionsMax → (es : List Entry) (rs lent : List ℕ) (p : ℕ)
-    (r : Reader) (v : View) → seesView v ≡ seesOf r (s .manager) → appliesView v ≡ appliesOf r (s .manager)
+    (r : Reader) (v : View) → seesView v ≡ seesOf r (managerIn s) → appliesView v ≡ appliesOf r (managerIn s)
     → Carried lent (storeOf s rs es) (step (scan r p lent) (storeOf s rs es))
-      (lookBy (isReader r (s .manager)) v s (restIn s es rs) (loadedArea es (s .partitions) p) (length lent) p)
+      (lookBy (isReader r (managerIn s)) v s (restIn s es rs) (loadedArea es (s .partitions) p) (length lent) p)
 unfolding step scanAnswer
 look-left s n es rs lent p r v sees applies = let st = storeOf s rs es in let flags = flagsAt r p st in
     rw (sound-is s es rs) (split (wellFormed st)
   (λ t. let ok = store-facts st n t in rw (t, loaded-area es (ok .entries-length) (s .partitions) p)
     (split (leb partitionsMax p)
     (λ u. rw u (refused-left UnknownPartition s es rs lent flags))
-    (λ u. split (isReader r (s .manager))
+    (λ u. split (isReader r (managerIn s))
       (λ o. rw (u, o) (scan-room s es rs ok p (leb-false partitionsMax p u) r v sees applies lent))
       (λ o. rw (u, o) (refused-left NotOpen s es rs lent flags)))))
   (λ f. rw f (refused-left Unsound s es rs lent flags)))
@@ -154,10 +154,10 @@ module _ (s : State) (n : length (s .partitions .at) ≡ partitionsMax) (es : Li
   pub rw-left : Carried lent (storeOf s rs es) (step (scan (Rw i) p lent) (storeOf s rs es))
       (rwLook s (restIn s es rs) (loadedArea es (s .partitions) p) (length lent) i p)
   unfolding rwLook seesOf appliesOf seesView appliesView
-  rw-left = let m = s .manager in let e = take-pad depsMax 0 (depsAt i m) in
+  rw-left = let m = managerIn s in let e = take-pad depsMax 0 (depsAt i m) in
       look-left s n es rs lent p (Rw i) (rwView i m) (ap (seesRw i) e) (ap (appliesRw i) e)
 
   pub ro-left : Carried lent (storeOf s rs es) (step (scan (Ro i) p lent) (storeOf s rs es))
       (roLook s (restIn s es rs) (loadedArea es (s .partitions) p) (length lent) i p)
   unfolding roLook seesOf appliesOf seesView appliesView
-  ro-left = look-left s n es rs lent p (Ro i) (roView i (s .manager)) refl refl
+  ro-left = look-left s n es rs lent p (Ro i) (roView i (managerIn s)) refl refl

@@ -15,10 +15,10 @@ use denote.Struct.Declared.{row}
 use borrow.Author.Tests.{eqb-true, ltb-true, leb-false}
 use Rattle.lists.proofs.Laws.Bools.{split}
 use Rattle.rules.specs.Limits.{partitionsMax, rowsMax, entriesMax}
-use Rattle.rules.specs.Manager.{hasOpen}
+use Rattle.rules.specs.Manager.{hasOpen, managerIn}
 use Rattle.rules.specs.Span.{wordsOf}
 use Rattle.rules.specs.Append.{appended, cleared}
-use Rattle.rules.specs.Store.{Store, noPartition, withPartitionsIn, spansAt, laidInPlace}
+use Rattle.rules.specs.Store.{withPartitionsIn, Store, noPartition, withPartitionsIn, spansAt, laidInPlace}
 use Rattle.rules.specs.WellFormed.{wellFormed}
 use Rattle.rules.specs.Calls.{refuse, appendAnswer, clearAnswer}
 use Rattle.rules.specs.Step.{Outcome, outcome, step, append, clear}
@@ -55,7 +55,7 @@ use Rattle.store.specs.Done.{doneWrite}
 use Rattle.store.proofs.Laws.Kept.{restIn, sound-is}
 
 pub state-8 : (s : State) (vs : List Val) → Is (row state-type.the-type) s vs → length (s .partitions .at) ≡ 8
-state-8 s vs g = partitions-8 (s .partitions) _ (g .1 .1 .1 .0)
+state-8 s vs g = partitions-8 (s .partitions) _ (g .1 .1 .1 .1 .1 .1 .0)
 
 -- ---- a write carried out, with the batch bs
 
@@ -77,8 +77,8 @@ module _ (s : State) (n : length (s .partitions .at) ≡ partitionsMax) where
   refused-left r es rs bs next =
       let e = set-out es (length es) none (omega arith) in
       rw (refused r) (refl, λ j. storeOf
-        (record { manager = s .manager; partitions = record {
-          at = set-out (s .partitions .at) partitionsMax noPartition (omega arith) j; spare = s .partitions .spare } })
+        (withPartitionsIn (record {
+          at = set-out (s .partitions .at) partitionsMax noPartition (omega arith) j; spare = s .partitions .spare }) s)
         (put-past bs rs j) ((ap (λ (xs : List Entry). movedEnd xs (length es) 0) e ∙ unmoved es (length es) 0 refl) j))
 
 -- ---- the entries that a plan puts
@@ -165,7 +165,7 @@ append-left s n es rs bs i p = let st = storeOf s rs es in
     let next = laidInPlace p (appended i bs (spansAt p st)) st in rw (sound-is s es rs) (split (wellFormed st)
   (λ t. let ok = store-facts st n t in rw t (split (leb partitionsMax p)
     (λ u. rw u (refused-left s n UnknownPartition es rs bs next))
-    (λ u. let h = leb-false partitionsMax p u in split (hasOpen i (s .manager))
+    (λ u. let h = leb-false partitionsMax p u in split (hasOpen i (managerIn s))
       (λ o. rw (u, o, last-same s n es rs ok p h i (length bs)) (append-room s n es rs ok p h i bs))
       (λ o. rw (u, o) (refused-left s n NotOpen es rs bs next)))))
   (λ f. rw f (refused-left s n Unsound es rs bs next)))
@@ -209,7 +209,7 @@ clear-carried s n es rs i p = let st = storeOf s rs es in
     let next = laidInPlace p (cleared i (spansAt p st)) st in rw (sound-is s es rs) (split (wellFormed st)
   (λ t. let ok = store-facts st n t in rw t (split (leb partitionsMax p)
     (λ u. rw u (refused-left s n UnknownPartition es rs [] next))
-    (λ u. split (hasOpen i (s .manager))
+    (λ u. split (hasOpen i (managerIn s))
       (λ o. rw (u, o) (clear-room s n es rs ok p (leb-false partitionsMax p u) i))
       (λ o. rw (u, o) (refused-left s n NotOpen es rs [] next)))))
   (λ f. rw f (refused-left s n Unsound es rs [] next)))

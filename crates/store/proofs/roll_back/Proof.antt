@@ -5,7 +5,7 @@ use denote.Triple.Spec.{tripleOf}
 use denote.Triple.Table.{entered, cited}
 use Rattle.rules.specs.Answers.{accepted}
 use Rattle.rules.specs.Step.{step, rollback}
-use Rattle.store.specs.Kept.{storeOf, Left, rollBackManaged}
+use Rattle.store.specs.Kept.{storeOf, Left, rollBackKept}
 use Rattle.store.specs.Done.{doneRollBack}
 use Rattle.shapes.proofs.Core.{Asks, Rests}
 use Rattle.shapes.proofs.Roll.{Roll, Core, Goes, Rolled, Fin, meets}
@@ -15,11 +15,11 @@ use Rattle.partition_sound.proofs.rest_ok.Symbol as rest
 use Rattle.partition_sound.proofs.rest_ok.Met as rest-thm
 use Rattle.undo.proofs.lots.roll_lots.Symbol as roll
 use Rattle.undo.proofs.lots.roll_lots.Met as roll-thm
-use Rattle.store.proofs.Types.{kept, managed, asks}
+use Rattle.store.proofs.Types.{kept, asks}
 use Rattle.store.proofs.Laws.Write.{state-8}
 use Rattle.store.proofs.Laws.RollBack.{Rolls, roll-back-left}
-use Rattle.store.proofs.books.roll_back_core.Symbol as core
-use Rattle.store.proofs.books.roll_back_core.Met as core-thm
+use Rattle.txn_close.proofs.roll_back.Symbol as core
+use Rattle.txn_close.proofs.roll_back.Met as core-thm
 use Rattle.store.proofs.books.goes_on.Symbol as goes
 use Rattle.store.proofs.books.goes_on.Met as goes-thm
 use Rattle.store.proofs.done.roll_back_done.Symbol as fin
@@ -30,9 +30,9 @@ use Rattle.store.proofs.roll_back.Statement as stated
 use Rattle.store.proofs.roll_back.Code as code
 
 abbrev shape : Roll
-shape = record { asks = asks; plan = managed; answer = kept;
+shape = record { asks = asks; plan = kept; answer = kept;
   core = core.name; goes = goes.name; roll = roll.name; fin = fin.name;
-  planOf = rollBackManaged;
+  planOf = rollBackKept;
   goOf = λ w. accepted (w .answer);
   rolls = Rolls;
   answerOf = doneRollBack;
@@ -49,7 +49,7 @@ roll-back-spec 𝓤 H 𝓜 𝓖 𝓡 =
     (ask-thm.met 𝓤 H 𝓜 𝓖 𝓡))
     (cited 𝓤 H (Rests asks 𝓤 H (𝓖 .A)) 𝓜 𝓡 code.env rest.name rest.routine code.calls-partition-sound·rest-ok
     (rest-thm.met 𝓤 H 𝓜 𝓖 𝓡))
-    (cited 𝓤 H (Core shape 𝓤 H (𝓖 .A)) 𝓜 𝓡 code.env core.name core.routine code.calls-store·books·roll-back-core
+    (cited 𝓤 H (Core shape 𝓤 H (𝓖 .A)) 𝓜 𝓡 code.env core.name core.routine code.calls-txn-close·roll-back
     (core-thm.met 𝓤 H 𝓜 𝓖 𝓡))
     (cited 𝓤 H (Goes shape 𝓤 H (𝓖 .A)) 𝓜 𝓡 code.env goes.name goes.routine code.calls-store·books·goes-on
     (goes-thm.met 𝓤 H 𝓜 𝓖 𝓡))

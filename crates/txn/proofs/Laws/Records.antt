@@ -9,9 +9,6 @@ use native.Mathlib.Omega.{arith}
 use lib.ListN.{length, take, getD, length-map}
 use lib.Seq.{length-take-le}
 use lib.Dec.{eqb}
-use mir.Val.{Val}
-use denote.Laws.{Is}
-use denote.Struct.Declared.{row}
 use borrow.Author.Tests.{eqb-true, eq-eqb}
 use Rattle.lists.specs.Lists.{gather, pad}
 use Rattle.lists.proofs.Laws.All.{All}
@@ -26,11 +23,10 @@ use Rattle.rules.specs.WellFormed.{unusedRw, unusedRo, managerOk}
 use Rattle.rules.specs.declared.RwTxn.{RwTxn}
 use Rattle.rules.specs.declared.RwTxns.{RwTxns}
 use Rattle.rules.specs.declared.RoTxn.{RoTxn}
-use Rattle.rules.specs.declared.Manager.{Manager}
-use Rattle.rules.proofs.Manager as manager-type
+use Rattle.rules.specs.Manager.{Manager}
 use Rattle.rules.proofs.Laws.Manager.{manager-facts}
 use Rattle.rules.proofs.Laws.Views.{Fits, rows-wide, views-rows, views-whole, views-fit}
-use Rattle.txn_find.proofs.Laws.Places.{manager-writers-32, manager-deps-992, manager-readers-32}
+use Rattle.txn_find.proofs.Laws.Places.{Sized}
 use Rattle.txn.specs.Records.{writersWith, tableWith, viewed, Tidy, TidyReaders}
 
 -- ---- records and table of the transactions ws
@@ -91,10 +87,10 @@ unused-ro p ok = λ i. record {
   ticket = eqb-true (p .ticket) 0 (and-left (eqb (p .ticket) 0) (eqb (p .epoch) 0) ok) i;
   epoch = eqb-true (p .epoch) 0 (and-right (eqb (p .ticket) 0) (eqb (p .epoch) 0) ok) i }
 
-module _ (m : Manager) (ok : managerOk m ≡ true) {vs : List Val} (g : Is (row manager-type.the-type) m vs) where
+module _ (m : Manager) (ok : managerOk m ≡ true) (z : Sized m) where
   pub writers-tidy : Tidy (m .writers) (m .deps)
   writers-tidy =
-    let f = manager-facts m ok in let l = manager-writers-32 m vs g in let w = manager-deps-992 m vs g in
+    let f = manager-facts m ok in let l = z .writers in let w = z .deps in
     let few = f .writers-room in let ts = recordsOf m in
     let n : length ts ≡ m .writers .count = length-take-le (m .writers .count) (m .writers .at) (omega arith) in
     let all = views-whole (m .deps) ts (omega arith) (f .deps-room) (f .deps-unused) in
@@ -110,14 +106,14 @@ module _ (m : Manager) (ok : managerOk m ≡ true) {vs : List Val} (g : Is (row 
 
   pub readers-tidy : TidyReaders m
   readers-tidy =
-    padded unusedRo noRo noRo (m .readers .at) readersMax (m .readers .count) (manager-readers-32 m vs g)
+    padded unusedRo noRo noRo (m .readers .at) readersMax (m .readers .count) (z .readers)
       (manager-facts m ok .readers-room)
       (λ i l e. unused-ro (getD (m .readers .at) i noRo) e) (manager-facts m ok .readers-unused)
 
 -- ---- the parts of a manager are sound just where it is
 
-pub parts-sound-is : (m : Manager) (rest : Bool) {r : Bool} {vs : List Val} → Is (row manager-type.the-type) m vs
+pub parts-sound-is : (m : Manager) (rest : Bool) {r : Bool} → Sized m
     → r ≡ (rest && (eqb (length (m .deps)) depsAll
       && managerOk (managerWith (m .clock) (m .writers) (m .deps) (m .readers))))
     → r ≡ (rest && managerOk m)
-parts-sound-is m rest g e = e ∙ rw (eq-eqb (length (m .deps)) depsAll (manager-deps-992 m _ g))
+parts-sound-is m rest z e = e ∙ rw (eq-eqb (length (m .deps)) depsAll (z .deps))

@@ -22,13 +22,15 @@ use Rattle.rules.specs.Close.{rolledBackManager}
 use Rattle.rules.specs.Calls.{closeAnswer}
 use Rattle.rules.specs.WellFormed.{managerOk}
 use Rattle.rules.specs.declared.Answer.the-variants.{Closed}
-use Rattle.rules.specs.declared.Manager.{Manager}
-use Rattle.rules.proofs.Manager as manager-type
+use Rattle.rules.specs.Manager.{Manager, managerIn}
+use Rattle.rules.specs.Store.{withManagerIn}
+use Rattle.rules.specs.declared.Kept.{Kept}
+use Rattle.rules.specs.declared.State.{State}
+use Rattle.rules.proofs.State as state-type
 use Rattle.rules.proofs.Laws.Manager.{WriterFacts, manager-facts, opens-epoch}
 use Rattle.rules.proofs.Laws.Close.{Unsettled, committed-unsettled, dropped-unsettled}
 use Rattle.rules.proofs.Laws.Views.{Fits, writers-length}
-use Rattle.txn.specs.Managed.{managed}
-use Rattle.txn.specs.declared.Managed.{Managed}
+use Rattle.txn.specs.Kept.{keptOf}
 use Rattle.txn.specs.Records.{writersWith, tableWith, viewed, Tidy}
 use Rattle.txn.proofs.Laws.Records.{viewed-with, tidy-with, writers-tidy}
 use Rattle.txn.proofs.Laws.Cut.{drop-one, change-one}
@@ -36,6 +38,7 @@ use Rattle.txn_find.specs.Find.{findFrom, writerAt}
 use Rattle.txn_find.specs.declared.Found.{Found}
 use Rattle.txn_find.specs.declared.Found.the-variants.{At}
 use Rattle.txn_find.proofs.Laws.Find.{writer-found, writer-stands}
+use Rattle.txn_find.proofs.Laws.Places.{sized}
 use Rattle.txn_close.specs.Close.{lead, runLce, booksWith, closedTxns, closedManager}
 use Rattle.txn_close.specs.declared.close.Books.{Books}
 use Rattle.txn_close.proofs.Laws.Settle.{settled-runs}
@@ -90,21 +93,25 @@ module _ (m : Manager) (i : ℕ) {j : ℕ} (f : WriterFacts (m .clock) (writersO
 
 -- ---- the transaction of epoch i was found at place j of a sound manager
 
-pub record Closing (m : Manager) (rest : Bool) (i j : ℕ) : Type 0 where
-  pub tidy : Tidy (m .writers) (m .deps)
-  pub place : j < m .writers .count
-  pub closes : (waits : Bool) → Closes m (closedTxns waits j i (writersOf m)) (closedManager waits i m)
-  pub answers : (next : Manager)
-    → _≡_ {A = Managed} (record { answer = Closed (next .clock .lce); manager = next })
-      (managed (closeAnswer i (rest && managerOk m) m next) next m)
+-- closed, with this manager after it
+abbrev pub closedKept : State → Manager → Kept
+closedKept s next = record { state = withManagerIn next s; answer = Closed (next .clock .lce) }
 
-pub closing : (m : Manager) (rest : Bool) {vs : List Val} → Is (row manager-type.the-type) m vs
-    → (i : ℕ) {j : ℕ} {r : Found} → rest && managerOk m ≡ true
-    → r ≡ writerAt i (m .writers) → r ≡ At j → Closing m rest i j
+pub record Closing (s : State) (rest : Bool) (i j : ℕ) : Type 0 where
+  pub tidy : Tidy (s .writers) (s .deps)
+  pub place : j < s .writers .count
+  pub closes : (waits : Bool) → let m = managerIn s in
+    Closes m (closedTxns waits j i (writersOf m)) (closedManager waits i m)
+  pub answers : (next : Manager) → let m = managerIn s in
+    closedKept s next ≡ keptOf (closeAnswer i (rest && managerOk m) m next) next s
+
+pub closing : (s : State) (rest : Bool) {vs : List Val} → Is (row state-type.the-type) s vs
+    → (i : ℕ) {j : ℕ} {r : Found} → rest && managerOk (managerIn s) ≡ true
+    → r ≡ writerAt i (s .writers) → r ≡ At j → Closing s rest i j
 unfolding closeAnswer
-closing m rest g i {j} sound a e =
-    let ok = and-right rest (managerOk m) sound in let f = manager-facts m ok in let w = writer-stands m i g a e in
-    let b = w .below in record {
-      tidy = writers-tidy m ok g; place = omega arith;
+closing s rest g i {j} sound a e =
+    let m = managerIn s in let z = sized s g in let ok = and-right rest (managerOk m) sound in
+    let f = manager-facts m ok in let w = writer-stands m i z a e in let b = w .below in record {
+      tidy = writers-tidy m ok z; place = omega arith;
       closes = closed-closes m i (f .writers) (f .writers-room) (said (writer-found m i a) e);
       answers = λ next. rw (sound, w .any) }

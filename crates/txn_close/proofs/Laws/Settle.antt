@@ -19,7 +19,7 @@ use Rattle.rules.specs.Manager.{Writer, view, views, isOpen, withClock, withWri
 use Rattle.rules.specs.Close.{unblocked, settledLce, settled}
 use Rattle.rules.specs.declared.RwTxn.{RwTxn}
 use Rattle.rules.specs.declared.RwTxns.{RwTxns}
-use Rattle.rules.specs.declared.Manager.{Manager}
+use Rattle.rules.specs.Manager.{Manager}
 use Rattle.rules.proofs.Laws.Manager.{epochs}
 use Rattle.rules.proofs.Laws.Close.{reached, kept}
 use Rattle.txn.specs.Records.{viewed}

@@ -6,11 +6,11 @@ use borrow.Author.Needs.{needs}
 use Rattle.lists.proofs.Laws.Branches.{said-yes, said-no}
 use Rattle.rules.specs.Calls.{closeAnswer}
 use Rattle.rules.specs.WellFormed.{managerOk}
-use Rattle.rules.specs.declared.Answer.the-variants.{Closed}
-use Rattle.rules.specs.declared.Manager.{Manager}
+use Rattle.rules.specs.Manager.{managerIn}
 use Rattle.txn.proofs.Laws.Records.{parts-sound-is}
 use Rattle.txn_find.proofs.Laws.Find.{writer-none}
-use Rattle.txn_close.proofs.Laws.Close.{Closing, closing, settled-is}
+use Rattle.txn_find.proofs.Laws.Places.{sized}
+use Rattle.txn_close.proofs.Laws.Close.{closedKept, Closing, closing, settled-is}
 use Rattle.txn_close.proofs.close_txn.Statement.{statement}
 use Rattle.txn_close.proofs.close_txn.Tie as tie
 
@@ -22,15 +22,16 @@ abbrev tested : tie.After-j → tie.After-parts-sound
 tested j = j .before .before .before .before .before
 
 sound : (p : tie.After-parts-sound) → let a = start p .args in
-    p .parts-sound .result ≡ (a .rest && managerOk (a .m))
+    p .parts-sound .result ≡ (a .rest && managerOk (managerIn (a .state)))
 sound p = let s = start p in
-    parts-sound-is (s .args .m) (s .args .rest) (s .good .0) (p .parts-sound .ensures)
+    parts-sound-is (managerIn (s .args .state)) (s .args .rest) (sized (s .args .state) (s .good .0))
+      (p .parts-sound .ensures)
 
 -- the transaction was found
 found : (j : tie.After-j) → let a = start (tested j) .args in
-    Closing (a .m) (a .rest) (a .i) (j .j .given .0 .0)
+    Closing (a .state) (a .rest) (a .i) (j .j .given .0 .0)
 found j = let f = j .before .before in let t = f .before .before in let s = start (t .before) in
-    closing (s .args .m) (s .args .rest) (s .good .0) _ (said-yes (sound (t .before)) (t .if1 .left))
+    closing (s .args .state) (s .args .rest) (s .good .0) _ (said-yes (sound (t .before)) (t .if1 .left))
       (f .find-writer .ensures) (j .j .given .1)
 
 settle-requires : tie.Need-settle-requires
@@ -48,14 +49,14 @@ unfolding closeAnswer
 returns-2 c = let e = c .before in let f = e .before .before in let t = f .before .before in let s = start (t
     .before) in
     rw (said-yes (sound (t .before)) (t .if1 .left),
-      writer-none (s .args .m) _ (f .find-writer .ensures) (e .enum-told .given .1) .any) (c .refused2 .ensures)
+      writer-none (managerIn (s .args .state)) _ (f .find-writer .ensures) (e .enum-told .given .1) .any) (c .refused2 .ensures)
 
 returns-3 : tie.Need-returns-3
 returns-3 c =
     let q = c .before .before in let k = q .before .before in let j = k .before .before .before .before .before in
     let s = start (tested j) in let o = found j in let e = k .close .ensures in
     let is = settled-is (o .closes (s .args .waits)) _ _ _ _ (e .0) (e .1) (q .settle .ensures) in
-    ap (λ (n : Manager). record { answer = Closed (n .clock .lce); manager = n }) is ∙ o .answers _
+    ap (closedKept (s .args .state)) is ∙ o .answers _
 
 pub close-txn-spec : {M : Type 1} → statement M
 unfolding closeAnswer

@@ -7,22 +7,18 @@ use Prim.Native.Nat.{ℕ, suc, _+_, _-_, _*_, _≤_, _<_, min}
 use native.Mathlib.Omega.{arith}
 use lib.ListN.{length, drop, getD, length-take}
 use lib.Seq.{getD-take}
-use mir.Val.{Val}
-use denote.Laws.{Is}
-use denote.Struct.Declared.{row}
 use Rattle.lists.specs.Lists.{anyOf, firstOf, part}
 use Rattle.lists.proofs.Laws.Bools.{split, or-false-left, or-false-right}
 use Rattle.lists.proofs.Laws.Branches.{said}
 use Rattle.rules.specs.Limits.{writersMax, readersMax, depsMax}
 use Rattle.rules.specs.Manager.{noWriter, noRw, noRo, recordsOf, view, views, writersOf, readersOf, opens, hasTicket}
 use Rattle.rules.specs.declared.RwTxn.{RwTxn}
-use Rattle.rules.specs.declared.Manager.{Manager}
-use Rattle.rules.proofs.Manager as manager-type
+use Rattle.rules.specs.Manager.{Manager}
 use Rattle.rules.proofs.Laws.Views.{writers-length, views-at}
 use Rattle.txn_find.specs.Find.{findFrom, opensAt, writerAt, readerAt}
 use Rattle.txn_find.specs.declared.Found.{Found}
 use Rattle.txn_find.specs.declared.Found.the-variants.{At, Nothing}
-use Rattle.txn_find.proofs.Laws.Places.{manager-writers-32, manager-readers-32}
+use Rattle.txn_find.proofs.Laws.Places.{Sized}
 
 abbrev isAt : Found → Bool
 isAt (At j) = true
@@ -89,14 +85,14 @@ module _ (m : Manager) (i : ℕ) {r : Found} where
   unfolding readerAt
   reader-none a e = missing (hasTicket i) (readersOf m) (said a e)
 
-  module _ {vs : List Val} (g : Is (row manager-type.the-type) m vs) {j : ℕ} where
+  module _ (z : Sized m) {j : ℕ} where
     -- a record, with its row of the table
     pub writer-stands : r ≡ writerAt i (m .writers) → r ≡ At j
       → Stands (opens i) (writersOf m) (m .writers .count) writersMax
         (view (part (depsMax * j) depsMax (m .deps)) (getD (m .writers .at) j noRw)) j
     writer-stands a e =
       stands (opens i) (writersOf m) (m .writers .count) writersMax noWriter _ j
-        (writers-length m ∙ ap (λ n. min (m .writers .count) n) (manager-writers-32 m vs g)) (said (writer-found a) e)
+        (writers-length m ∙ ap (λ n. min (m .writers .count) n) (z .writers)) (said (writer-found a) e)
         (λ h. let l = writers-length m in let w = length-take (m .writers .count) (m .writers .at) in
           views-at (m .deps) (recordsOf m) j (omega arith)
           ∙ ap (view (part (depsMax * j) depsMax (m .deps)))
@@ -107,5 +103,5 @@ module _ (m : Manager) (i : ℕ) {r : Found} where
     unfolding readerAt
     reader-stands a e = let w = length-take (m .readers .count) (m .readers .at) in
       stands (hasTicket i) (readersOf m) (m .readers .count) readersMax noRo _ j
-        (w ∙ ap (λ n. min (m .readers .count) n) (manager-readers-32 m vs g)) (said a e)
+        (w ∙ ap (λ n. min (m .readers .count) n) (z .readers)) (said a e)
         (λ h. getD-take (m .readers .count) (m .readers .at) j noRo (omega arith))

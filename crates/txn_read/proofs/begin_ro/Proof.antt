@@ -1,36 +1,48 @@
 -- Soundness, the range of the snapshot, the tickets left, the places left; then the manager with one reader
 -- more.
 -- Assumes nothing.
-use mathlib.Core.Path.{_∙_}
+use mathlib.Core.Path.{_≡_, _∙_}
+use mathlib.Core.Bool.{_&&_}
 use native.Mathlib.Omega.{arith}
 use borrow.Author.Needs.{needs}
 use borrow.Author.Tests.{ne-eqb, le-leb, lt-leb}
 use Rattle.lists.proofs.Laws.Bools.{and-right}
-use Rattle.lists.proofs.Laws.Branches.{tests, said-yes, said-no}
+use Rattle.lists.proofs.Laws.Branches.{tests, said}
 use Rattle.rules.specs.Limits.{lastTicket}
-use Rattle.rules.specs.ReadOnly.{snapshotEpoch}
+use Rattle.rules.specs.Manager.{managerIn}
+use Rattle.rules.specs.ReadOnly.{snapshotEpoch, begunRoManager}
 use Rattle.rules.specs.Calls.{beginRoAnswer}
 use Rattle.rules.specs.WellFormed.{managerOk}
 use Rattle.rules.proofs.Laws.Manager.{manager-facts}
+use Rattle.txn_find.proofs.Laws.Places.{sized}
+use Rattle.txn.proofs.Laws.Records.{readers-tidy, parts-sound-is}
 use Rattle.txn_read.proofs.begin_ro.Statement.{statement}
 use Rattle.txn_read.proofs.begin_ro.Tie as tie
+
+abbrev start : tie.After-parts-sound → tie.Start
+start p = p .before .before .before .before .before .before .before
+
+sound : (p : tie.After-parts-sound) → let a = start p .args in
+    p .parts-sound .result ≡ (a .rest && managerOk (managerIn (a .state)))
+sound p = let s = start p in
+    parts-sound-is (managerIn (s .args .state)) (s .args .rest) (sized (s .args .state) (s .good .0))
+      (p .parts-sound .ensures)
 
 begun-ro-requires : tie.Need-begun-ro-requires
 unfolding lastTicket
 begun-ro-requires c κs =
-    let k = c .before .before .before .before .before .before .before .before in let s = k .before .before .args in
-    let ok = and-right (s .rest) (managerOk (s .m)) (said-yes (k .before .is-sound .ensures) (k .if1 .left)) in
-    let f = manager-facts (s .m) ok .readers .next-high in
-    (ok, (c .if5 .left, omega arith))
+    let e = c .before in let x = e .before in let t = x .before .before .before .before in let s = start (t .before) in
+    let m = managerIn (s .args .state) in let yes = said (sound (t .before)) (t .if1 .taken) in
+    let ok = and-right (s .args .rest) (managerOk m) yes in let f = manager-facts m ok .readers .next-high in
+    ((e .if5 .left, omega (arith, x .if4 .left)), readers-tidy m ok (sized (s .args .state) (s .good .0)))
 
-returns-6 : tie.Need-returns-6
-unfolding beginRoAnswer snapshotEpoch lastTicket
-returns-6 c =
-    let x = c .before .before .before in let h = x .before in let l = h .before .before in
-    let p = l .before .before in let k = p .before in
-    rw (c .begun-ro .ensures, said-yes (k .before .is-sound .ensures) (k .if1 .left), ← p .snapshot .ensures,
-      le-leb _ _ (l .if2 .left), le-leb _ _ (h .if3 .left),
-      ne-eqb _ _ (x .if4 .left), lt-leb _ _ (c .before .if5 .left))
+returns-5 : tie.Need-returns-5
+unfolding beginRoAnswer begunRoManager snapshotEpoch lastTicket
+returns-5 c =
+    let e = c .before .before in let x = e .before in let h = x .before in let l = h .before in let p = l .before in
+    let t = p .before in
+    rw (c .begun-ro .ensures, said (sound (t .before)) (t .if1 .taken), ← p .snapshot .ensures,
+      le-leb _ _ (l .if2 .left), le-leb _ _ (h .if3 .left), ne-eqb _ _ (x .if4 .left), lt-leb _ _ (e .if5 .left))
 
 pub begin-ro-spec : {M : Type 1} → statement M
 unfolding beginRoAnswer snapshotEpoch lastTicket
@@ -39,21 +51,15 @@ begin-ro-spec =
     (tie.spec
     (λ c κs. search needs)
     (λ c κs. search needs)
-    (λ c. c .refused .ensures ∙ rw (said-no (c .before .before .is-sound .ensures) (c .before .if1 .taken)))
-    (λ c κs. search needs)
-    (λ c κs. search needs)
-    (λ c. let p = c .before .before .before in let k = p .before in c .refused2 .ensures
-      ∙ search (tests, ← p .snapshot .ensures, said-yes (k .before .is-sound .ensures) (k .if1 .left)))
-    (λ c κs. search needs)
-    (λ c. let p = c .before .before .before .before .before in let k = p .before in c .refused3 .ensures
-      ∙ search (tests, ← p .snapshot .ensures, said-yes (k .before .is-sound .ensures) (k .if1 .left)))
     (λ c. search needs)
-    (λ c κs. search needs)
-    (λ c. let p = c .before .before .before .before .before .before in let k = p .before in c .refused4 .ensures
-      ∙ search (tests, ← p .snapshot .ensures, said-yes (k .before .is-sound .ensures) (k .if1 .left)))
-    (λ c κs. search needs)
-    (λ c. let p = c .before .before .before .before .before .before .before .before in let k = p .before in
-      c .refused5 .ensures
-      ∙ search (tests, ← p .snapshot .ensures, said-yes (k .before .is-sound .ensures) (k .if1 .left)))
     begun-ro-requires
-    returns-6)
+    (λ c. let p = c .before in let t = p .before in
+      search (tests, ← p .snapshot .ensures, said (sound (t .before)) (t .if1 .taken)))
+    (λ c. let p = c .before .before in let t = p .before in
+      search (tests, ← p .snapshot .ensures, said (sound (t .before)) (t .if1 .taken)))
+    (λ c. let p = c .before .before .before in let t = p .before in
+      search (tests, ← p .snapshot .ensures, said (sound (t .before)) (t .if1 .taken)))
+    (λ c. let p = c .before .before .before .before in let t = p .before in
+      search (tests, ← p .snapshot .ensures, said (sound (t .before)) (t .if1 .taken)))
+    returns-5
+    (λ c. rw (said (sound (c .before)) (c .if1 .left))))

@@ -10,6 +10,8 @@ use Rattle.rules.specs.Safe.{blocked, targetOf, advancedManager}
 use Rattle.rules.specs.Calls.{advanceLseAnswer}
 use Rattle.rules.specs.WellFormed.{managerOk}
 use Rattle.rules.proofs.Laws.Safe.{target-greatest}
+use Rattle.rules.specs.Manager.{managerIn}
+use Rattle.txn_find.proofs.Laws.Places.{sized}
 use Rattle.txn.proofs.Laws.Records.{parts-sound-is}
 use Rattle.txn_safe.proofs.advance_lse.Statement.{statement}
 use Rattle.txn_safe.proofs.advance_lse.Tie as tie
@@ -18,8 +20,10 @@ abbrev start : tie.After-parts-sound → tie.Start
 start p = p .before .before .before .before .before .before .before
 
 sound : (p : tie.After-parts-sound) → let a = start p .args in
-    p .parts-sound .result ≡ (a .rest && managerOk (a .m))
-sound p = let s = start p in parts-sound-is (s .args .m) (s .args .rest) (s .good .0) (p .parts-sound .ensures)
+    p .parts-sound .result ≡ (a .rest && managerOk (managerIn (a .state)))
+sound p = let s = start p in
+    parts-sound-is (managerIn (s .args .state)) (s .args .rest) (sized (s .args .state) (s .good .0))
+      (p .parts-sound .ensures)
 
 returns : tie.Need-returns
 unfolding advanceLseAnswer advancedManager targetOf
@@ -27,7 +31,8 @@ returns c =
     let g = c .before in let z = g .before .before .before .before .before .before .before in
     let t = z .before in let s = start (t .before) .args in
     let yes = said (sound (t .before)) (t .if1 .taken) in
-    let w = target-greatest (s .m) (and-right (s .rest) (managerOk (s .m)) yes) in
+    let m = managerIn (s .state) in
+    let w = target-greatest m (and-right (s .rest) (managerOk m) yes) in
     rw (g .greatest .ensures, yes, eq-eqb _ _ (z .if2 .taken), le-leb _ _ (w .low), le-leb _ _ (w .high), w .free)
 
 returns-4 : tie.Need-returns-4

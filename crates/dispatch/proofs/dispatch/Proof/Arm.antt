@@ -32,15 +32,15 @@ use Rattle.walks.proofs.Shown.{Shown}
 use Rattle.walks.proofs.Values.{Nums, vals, Fits}
 use Rattle.shapes.proofs.Callers.{Kind, look, write, bitmap, Lenders, besides, Lists, AsLong, Slices, Calls as Sig}
 use Rattle.shapes.proofs.Callers.{Tells-of, called}
-use Rattle.store.specs.declared.Kept.{Kept}
+use Rattle.rules.specs.declared.Kept.{Kept}
 use Rattle.store.proofs.Types.{kept, answer}
-use Rattle.store.proofs.Kept as KeptT
-use Rattle.store.proofs.Kept.Laws as KeptL
+use Rattle.rules.proofs.Kept as KeptT
+use Rattle.rules.proofs.Kept.Laws as KeptL
 use Rattle.dispatch.proofs.Turning.{command}
 use Rattle.dispatch.proofs.dispatch.Proof.Match.{firsts, up, entry, word, lending, lent-to, scan-to}
 
 abbrev pub kept-by : Answer → State → Kept
-kept-by a s = record { answer = a; state = s }
+kept-by a s = record { state = s; answer = a }
 
 -- calls that only look are lent `&`
 abbrev pub kindOf : Mutability → Kind
@@ -161,9 +161,9 @@ module _ {M : Type 1} (𝓤 : URA M) (H : Heap 𝓤) (A : Atoms 𝓤) (W : Given
           (λ i′ j l. and-then ! (get ! 3 1 refl refl refl) (and-then ! (get ! 4 (up 2 i) refl refl (e .3)) (and-then !
               (get ! 4 (up 4 i) refl refl (e .4)) (and-then ! (get ! 4 (up 6 i) refl refl (e .5)) (os i′ j l)))))
           (λ r ls al p is. let ga : Is (kept .row) (kept-by r bk) (kept .val (kept-by r bk) ∷ []) = LL.owes
-              KeptT.the-type KeptL.the-laws (kept-by r bk) (is, (gb, tt)) in
+              KeptT.the-type KeptL.the-laws (kept-by r bk) (gb, (is, tt)) in
           land ! (spot ! (s .0) (stop !)) (puts-at ! 5 i refl (s .0) (e .6) (answer .wt 𝓤 H A W r is)) $
-          assigns-last ! (agg ! (and-then ! (get ! 5 i refl refl (e .7 _)) (and-then ! (get ! 4 1 refl refl refl)
+          assigns-last ! (agg ! (and-then ! (get ! 4 1 refl refl refl) (and-then ! (get ! 5 i refl refl (e .7 _))
               (no-more !)))) (spot ! (s .3) (stop !)) (puts-at ! 5 33 refl (s .3) (e .8 _) (kept .wt 𝓤 H A W (kept-by
               r bk) ga)) $
           then r ls al p ga)

@@ -74,7 +74,7 @@ abbrev pub scan-to : ℕ → Name → List Operand → Body
 scan-to i f xs = lending (up 1 i) (reborrow 5 (loc (up 5 i)) (loc (up 6 i)) (tyInt w8) (seq (call f (copy (place 1
     []) ∷ copy
     (place (loc (up 2 i)) []) ∷ copy (place (loc (up 4 i)) []) ∷ copy (place (loc (up 6 i)) []) ∷ xs) (place (loc i)
-        [])) (assign (place (loc 33) []) (aggregate (copy (place (loc i) []) ∷ copy (place 1 []) ∷ [])))))
+        [])) (assign (place (loc 33) []) (aggregate (copy (place 1 []) ∷ copy (place (loc i) []) ∷ [])))))
 
 abbrev pub the-answer : Body
 the-answer = assign (place (loc 12) []) (rvOpd (copy (place (loc 33) [])))

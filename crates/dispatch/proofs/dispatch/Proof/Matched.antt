@@ -42,7 +42,7 @@ use Rattle.rules.specs.declared.Reader.{Reader}
 use Rattle.rules.specs.declared.Reader.the-variants.{Rw, Ro}
 use Rattle.rules.specs.declared.State.{State}
 use Rattle.store.specs.Kept.{storeOf}
-use Rattle.store.specs.declared.Kept.{Kept}
+use Rattle.rules.specs.declared.Kept.{Kept}
 use Rattle.rules.proofs.Command as Cm
 use Rattle.rules.proofs.Command.Laws as Cm′
 use Rattle.rules.proofs.Entry as T

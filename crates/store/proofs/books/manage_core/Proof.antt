@@ -12,26 +12,16 @@ manage-core-spec =
     (tie.spec
     (λ c. search needs)
     (λ c κs. search needs)
+    (λ c. search needs)
     (λ c κs. search needs)
     (λ c. search needs)
     (λ c κs. search needs)
+    (λ c. search needs)
     (λ c κs. search needs)
     (λ c. search needs)
     (λ c κs. search needs)
-    (λ c κs. search needs)
-    (λ c. search needs)
-    (λ c κs. search needs)
-    (λ c κs. search needs)
-    (λ c. search needs)
-    (λ c κs. search needs)
-    (λ c κs. search needs)
-    (λ c. let b = c .before in let e = b .before in
-      c .kept .ensures ∙ rw (b .begin .ensures, e .enum-told .given .1))
-    (λ c. let b = c .before in let e = b .before .before in
-      c .kept2 .ensures ∙ rw (b .close-txn .ensures, e .call .given .1))
-    (λ c. let b = c .before in let e = b .before .before in
-      c .kept3 .ensures ∙ rw (b .begin-ro .ensures, e .call2 .given .1))
-    (λ c. let b = c .before in let e = b .before .before in
-      c .kept4 .ensures ∙ rw (b .end-ro .ensures, e .call3 .given .1))
-    (λ c. let b = c .before in let e = b .before .before in
-      c .kept5 .ensures ∙ rw (b .advance-lse .ensures, e .call4 .given .1)))
+    (λ c. c .begin .ensures ∙ rw (c .before .enum-told .given .1))
+    (λ c. c .commit .ensures ∙ rw (c .before .before .call .given .1))
+    (λ c. c .begin-ro .ensures ∙ rw (c .before .before .call2 .given .1))
+    (λ c. c .end-ro .ensures ∙ rw (c .before .before .call3 .given .1))
+    (λ c. c .advance-lse .ensures ∙ rw (c .before .before .call4 .given .1)))

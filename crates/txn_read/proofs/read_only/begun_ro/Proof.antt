@@ -5,28 +5,23 @@ use native.Mathlib.Omega.{arith}
 use borrow.Author.Needs.{needs}
 use Rattle.lists.proofs.Laws.Places.{pushed}
 use Rattle.rules.specs.Limits.{readersMax}
-use Rattle.rules.specs.Manager.{noRo}
-use Rattle.rules.specs.ReadOnly.{snapshotEpoch, begunRoManager}
+use Rattle.rules.specs.Manager.{noRo, roTxn}
 use Rattle.rules.proofs.Laws.Limits.{lastTicket-fits}
-use Rattle.txn_find.proofs.Laws.Places.{manager-readers-32}
-use Rattle.txn.proofs.Laws.Records.{readers-tidy}
+use Rattle.txn_find.proofs.Laws.Places.{readers-32}
 use Rattle.txn_read.proofs.read_only.begun_ro.Statement.{statement}
 use Rattle.txn_read.proofs.read_only.begun_ro.Tie as tie
 
 returns : tie.Need-returns
-unfolding begunRoManager snapshotEpoch
 returns c =
-    let s = c .before .before in let m = s .args .m in
-    let p = pushed noRo (m .readers .at) readersMax (m .readers .count)
-      (record { ticket = m .readers .next; epoch = snapshotEpoch (s .args .e) m })
-      (manager-readers-32 m _ (s .good .0)) (readers-tidy m (s .pre .0) (s .good .0)) (s .pre .1 .0) in
-    rw (c .before .snapshot .ensures, p .0, p .1, add-one (m .readers .next))
+    let ps = c .args .readers in
+    let p = pushed noRo (ps .at) readersMax (ps .count) (roTxn (ps .next) (c .args .at))
+      (readers-32 ps _ (c .good .0)) (c .pre .1) (c .pre .0 .0) in
+    rw (p .0, p .1, add-one (ps .next))
 
 pub begun-ro-spec : {M : Type 1} → statement M
 begun-ro-spec =
     tie.close
     (tie.spec
-    (λ c κs. search needs)
     (λ c. search needs)
     (λ c. search needs)
     (λ c. search needs)
