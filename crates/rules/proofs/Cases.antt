@@ -7,7 +7,7 @@ use lib.ListN.{replicate}
 use Rattle.rules.specs.Step.{Call, begin, append, clear, commit, beginRo, advanceLse, purge, run}
 use Rattle.rules.specs.Store.{Store}
 use Rattle.rules.specs.declared.Reader.the-variants.{Ro}
-use Rattle.rules.proofs.Look.{made, Look, linesOf, bitsTo, entriesIn, Case, observed}
+use Rattle.rules.proofs.Look.{made, Look, linesOf, bitsTo, entriesIn, Case, observed, alike, agree, agree-eq}
 
 -- transactions 1 to 8 are begun, write, and commit
 written : List Call → Store
@@ -62,5 +62,5 @@ cases =
     ∷ []
 
 pub cases-hold : map observed cases ≡ map (λ c. c .expected) cases
-unfolding observed cases from snapshotAt purgedAt written tableA tableB
-cases-hold = refl
+unfolding agree alike observed cases from snapshotAt purgedAt written tableA tableB
+cases-hold = agree-eq (map observed cases) (map (λ c. c .expected) cases) refl

@@ -28,8 +28,8 @@ use Rattle.rules.specs.declared.RwTxns.{RwTxns}
 use Rattle.rules.specs.declared.RoTxn.{RoTxn}
 use Rattle.rules.specs.declared.Manager.{Manager}
 use Rattle.rules.proofs.Manager as manager-type
-use Rattle.rules.proofs.Laws.Manager.{manager-facts}
-use Rattle.rules.proofs.Laws.Views.{Fits, rows-wide, views-rows, views-whole, views-fit}
+use Rattle.laws.proofs.Laws.Manager.{manager-facts}
+use Rattle.laws.proofs.Laws.Views.{Fits, rows-wide, views-rows, views-whole, views-fit}
 use Rattle.txn_find.proofs.Laws.Places.{manager-writers-32, manager-deps-992, manager-readers-32}
 use Rattle.txn.specs.Records.{writersWith, tableWith, viewed, Tidy, TidyReaders}
 

@@ -24,9 +24,9 @@ use Rattle.rules.specs.WellFormed.{managerOk}
 use Rattle.rules.specs.declared.Answer.the-variants.{Closed}
 use Rattle.rules.specs.declared.Manager.{Manager}
 use Rattle.rules.proofs.Manager as manager-type
-use Rattle.rules.proofs.Laws.Manager.{WriterFacts, manager-facts, opens-epoch}
-use Rattle.rules.proofs.Laws.Close.{Unsettled, committed-unsettled, dropped-unsettled}
-use Rattle.rules.proofs.Laws.Views.{Fits, writers-length}
+use Rattle.laws.proofs.Laws.Manager.{WriterFacts, manager-facts, opens-epoch}
+use Rattle.laws.proofs.Laws.Close.{Unsettled, committed-unsettled, dropped-unsettled}
+use Rattle.laws.proofs.Laws.Views.{Fits, writers-length}
 use Rattle.txn.specs.Managed.{managed}
 use Rattle.txn.specs.declared.Managed.{Managed}
 use Rattle.txn.specs.Records.{writersWith, tableWith, viewed, Tidy}

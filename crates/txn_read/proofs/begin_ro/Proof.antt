@@ -11,7 +11,7 @@ use Rattle.rules.specs.Limits.{lastTicket}
 use Rattle.rules.specs.ReadOnly.{snapshotEpoch}
 use Rattle.rules.specs.Calls.{beginRoAnswer}
 use Rattle.rules.specs.WellFormed.{managerOk}
-use Rattle.rules.proofs.Laws.Manager.{manager-facts}
+use Rattle.laws.proofs.Laws.Manager.{manager-facts}
 use Rattle.txn_read.proofs.begin_ro.Statement.{statement}
 use Rattle.txn_read.proofs.begin_ro.Tie as tie
 

@@ -9,7 +9,7 @@ use Rattle.rules.specs.Calls.{endRoAnswer}
 use Rattle.rules.specs.WellFormed.{managerOk}
 use Rattle.rules.specs.declared.Answer.the-variants.{EndedRo}
 use Rattle.rules.specs.declared.Manager.{Manager}
-use Rattle.rules.proofs.Laws.Manager.{manager-facts}
+use Rattle.laws.proofs.Laws.Manager.{manager-facts}
 use Rattle.txn_find.proofs.Laws.Find.{reader-stands, reader-none}
 use Rattle.txn.specs.declared.Managed.{Managed}
 use Rattle.txn.proofs.Laws.Records.{readers-tidy}

@@ -9,7 +9,7 @@ use Rattle.lists.proofs.Laws.Branches.{tests, said}
 use Rattle.rules.specs.Safe.{blocked, targetOf, advancedManager}
 use Rattle.rules.specs.Calls.{advanceLseAnswer}
 use Rattle.rules.specs.WellFormed.{managerOk}
-use Rattle.rules.proofs.Laws.Safe.{target-greatest}
+use Rattle.laws.proofs.Laws.Safe.{target-greatest}
 use Rattle.txn.proofs.Laws.Records.{parts-sound-is}
 use Rattle.txn_safe.proofs.advance_lse.Statement.{statement}
 use Rattle.txn_safe.proofs.advance_lse.Tie as tie

@@ -11,7 +11,7 @@ use Rattle.lists.proofs.Laws.Branches.{tests, said}
 use Rattle.rules.specs.Limits.{lastEpoch, writersMax}
 use Rattle.rules.specs.Calls.{beginAnswer}
 use Rattle.rules.specs.WellFormed.{managerOk}
-use Rattle.rules.proofs.Laws.Manager.{manager-facts}
+use Rattle.laws.proofs.Laws.Manager.{manager-facts}
 use Rattle.epoch.proofs.Laws.Ticks.{ticked-next}
 use Rattle.txn.proofs.Laws.Records.{writers-tidy, parts-sound-is}
 use Rattle.txn_start.proofs.Laws.Begin.{begun-is}

@@ -7,7 +7,7 @@ use Rattle.lists.proofs.Laws.Places.{pushed}
 use Rattle.rules.specs.Limits.{readersMax}
 use Rattle.rules.specs.Manager.{noRo}
 use Rattle.rules.specs.ReadOnly.{snapshotEpoch, begunRoManager}
-use Rattle.rules.proofs.Laws.Limits.{lastTicket-fits}
+use Rattle.laws.proofs.Laws.Limits.{lastTicket-fits}
 use Rattle.txn_find.proofs.Laws.Places.{manager-readers-32}
 use Rattle.txn.proofs.Laws.Records.{readers-tidy}
 use Rattle.txn_read.proofs.read_only.begun_ro.Statement.{statement}
