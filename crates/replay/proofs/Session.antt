@@ -17,9 +17,9 @@ use Rattle.rules.specs.Step.{run}
 use Rattle.rules.specs.Store.{Store, partitionAt, createdState}
 use Rattle.rules.specs.declared.Command.the-variants.{Scan}
 use Rattle.rules.specs.declared.Reader.{Reader}
-use Rattle.rules.proofs.History.{history-shows}
-use Rattle.rules.proofs.Promises.{follows-history}
-use Rattle.rules.proofs.Laws.Sound.{rows-room}
+use Rattle.laws.proofs.History.{history-shows}
+use Rattle.laws.proofs.Promises.{follows-history}
+use Rattle.laws.proofs.Laws.Sound.{rows-room}
 use Rattle.lent.specs.Entries.{filled0}
 use Rattle.session_text.specs.Grammar.{parsed}
 use Rattle.session_text.specs.Print.{lineOf, printed}

@@ -4,13 +4,14 @@ use mathlib.Core.Path.{_≡_, refl}
 use mathlib.Core.List.{List, [], _∷_, _++_, map}
 use Prim.Native.Nat.{ℕ}
 use lib.ListN.{replicate}
-use Rattle.rules.specs.Step.{Call, begin, append, clear, commit, beginRo, advanceLse, purge}
+use Rattle.rules.specs.Step.{Call, begin, append, clear, commit, beginRo, advanceLse, purge, run}
+use Rattle.rules.specs.Store.{Store}
 use Rattle.rules.specs.declared.Reader.the-variants.{Ro}
-use Rattle.rules.proofs.Look.{made, Look, linesOf, bitsTo, entriesIn, Case, observed}
+use Rattle.rules.proofs.Look.{made, Look, linesOf, bitsTo, entriesIn, Case, observed, alike, agree, agree-eq}
 
 -- transactions 1 to 8 are begun, write, and commit
-written : List Call → List Call
-written cs = replicate 8 begin ++ cs ++ map commit (1 ∷ 2 ∷ 3 ∷ 4 ∷ 5 ∷ 6 ∷ 7 ∷ 8 ∷ [])
+written : List Call → Store
+written cs = run (replicate 8 begin ++ cs ++ map commit (1 ∷ 2 ∷ 3 ∷ 4 ∷ 5 ∷ 6 ∷ 7 ∷ 8 ∷ [])) (made 1)
 
 -- 004, table III a: 2 rows by 1, 2 by 3, 1 by 1, a delete by 5, 3 by 3, 1 by 7
 tableA : List Call
@@ -24,40 +25,42 @@ tableB =
     append 1 0 (11 ∷ 12 ∷ []) ∷ append 3 0 (31 ∷ 32 ∷ []) ∷ append 1 0 (13 ∷ []) ∷ clear 3 0
     ∷ append 1 0 (14 ∷ 15 ∷ 16 ∷ []) ∷ append 3 0 (33 ∷ 34 ∷ 35 ∷ []) ∷ append 1 0 (17 ∷ 18 ∷ []) ∷ []
 
-from : List Call → Look → List (List ℕ) → Case
-from cs l e = record { start = made 1; calls = cs; look = l; expected = e }
+from : Store → List Call → Look → List (List ℕ) → Case
+from st cs l e = record { start = st; calls = cs; look = l; expected = e }
 
 -- the bits that a read-only transaction at e is shown
-snapshotAt : ℕ → List Call → List ℕ → Case
-snapshotAt e cs bits = from (written cs ++ beginRo e ∷ []) (bitsTo (Ro 1) 0) (bits ∷ [])
+snapshotAt : ℕ → Store → List ℕ → Case
+snapshotAt e st bits = from st (beginRo e ∷ []) (bitsTo (Ro 1) 0) (bits ∷ [])
 
 -- the entries (epoch, end, mark) after a purge at l
-purgedAt : ℕ → List Call → List (List ℕ) → Case
-purgedAt l cs es = from (written cs ++ advanceLse l ∷ purge 0 ∷ []) (entriesIn 0) es
+purgedAt : ℕ → Store → List (List ℕ) → Case
+purgedAt l st es = from st (advanceLse l ∷ purge 0 ∷ []) (entriesIn 0) es
 
 pub cases : List Case
 cases =
+    let a = written tableA in
+    let b = written tableB in
     -- 1 to 4
-    snapshotAt 2 tableA (1 ∷ 1 ∷ 0 ∷ 0 ∷ 1 ∷ 0 ∷ 0 ∷ 0 ∷ 0 ∷ [])
-    ∷ snapshotAt 4 tableA (1 ∷ 1 ∷ 1 ∷ 1 ∷ 1 ∷ 1 ∷ 1 ∷ 1 ∷ 0 ∷ [])
-    ∷ snapshotAt 6 tableA (0 ∷ 0 ∷ 0 ∷ 0 ∷ 0 ∷ 0 ∷ 0 ∷ 0 ∷ 0 ∷ [])
-    ∷ snapshotAt 8 tableA (0 ∷ 0 ∷ 0 ∷ 0 ∷ 0 ∷ 0 ∷ 0 ∷ 0 ∷ 1 ∷ [])
+    snapshotAt 2 a (1 ∷ 1 ∷ 0 ∷ 0 ∷ 1 ∷ 0 ∷ 0 ∷ 0 ∷ 0 ∷ [])
+    ∷ snapshotAt 4 a (1 ∷ 1 ∷ 1 ∷ 1 ∷ 1 ∷ 1 ∷ 1 ∷ 1 ∷ 0 ∷ [])
+    ∷ snapshotAt 6 a (0 ∷ 0 ∷ 0 ∷ 0 ∷ 0 ∷ 0 ∷ 0 ∷ 0 ∷ 0 ∷ [])
+    ∷ snapshotAt 8 a (0 ∷ 0 ∷ 0 ∷ 0 ∷ 0 ∷ 0 ∷ 0 ∷ 0 ∷ 1 ∷ [])
     -- 5 to 8
-    ∷ snapshotAt 2 tableB (1 ∷ 1 ∷ 0 ∷ 0 ∷ 1 ∷ 1 ∷ 1 ∷ 1 ∷ 0 ∷ 0 ∷ 0 ∷ 1 ∷ 1 ∷ [])
-    ∷ snapshotAt 4 tableB (0 ∷ 0 ∷ 0 ∷ 0 ∷ 0 ∷ 0 ∷ 0 ∷ 0 ∷ 1 ∷ 1 ∷ 1 ∷ 0 ∷ 0 ∷ [])
-    ∷ snapshotAt 6 tableB (0 ∷ 0 ∷ 0 ∷ 0 ∷ 0 ∷ 0 ∷ 0 ∷ 0 ∷ 1 ∷ 1 ∷ 1 ∷ 0 ∷ 0 ∷ [])
-    ∷ snapshotAt 8 tableB (0 ∷ 0 ∷ 0 ∷ 0 ∷ 0 ∷ 0 ∷ 0 ∷ 0 ∷ 1 ∷ 1 ∷ 1 ∷ 0 ∷ 0 ∷ [])
+    ∷ snapshotAt 2 b (1 ∷ 1 ∷ 0 ∷ 0 ∷ 1 ∷ 1 ∷ 1 ∷ 1 ∷ 0 ∷ 0 ∷ 0 ∷ 1 ∷ 1 ∷ [])
+    ∷ snapshotAt 4 b (0 ∷ 0 ∷ 0 ∷ 0 ∷ 0 ∷ 0 ∷ 0 ∷ 0 ∷ 1 ∷ 1 ∷ 1 ∷ 0 ∷ 0 ∷ [])
+    ∷ snapshotAt 6 b (0 ∷ 0 ∷ 0 ∷ 0 ∷ 0 ∷ 0 ∷ 0 ∷ 0 ∷ 1 ∷ 1 ∷ 1 ∷ 0 ∷ 0 ∷ [])
+    ∷ snapshotAt 8 b (0 ∷ 0 ∷ 0 ∷ 0 ∷ 0 ∷ 0 ∷ 0 ∷ 0 ∷ 1 ∷ 1 ∷ 1 ∷ 0 ∷ 0 ∷ [])
     -- 9, 10
-    ∷ purgedAt 3 tableA ((3 ∷ 5 ∷ 0 ∷ []) ∷ (5 ∷ 5 ∷ 1 ∷ []) ∷ (3 ∷ 8 ∷ 0 ∷ []) ∷ (7 ∷ 9 ∷ 0 ∷ []) ∷ [])
-    ∷ purgedAt 5 tableA ((7 ∷ 1 ∷ 0 ∷ []) ∷ [])
+    ∷ purgedAt 3 a ((3 ∷ 5 ∷ 0 ∷ []) ∷ (5 ∷ 5 ∷ 1 ∷ []) ∷ (3 ∷ 8 ∷ 0 ∷ []) ∷ (7 ∷ 9 ∷ 0 ∷ []) ∷ [])
+    ∷ purgedAt 5 a ((7 ∷ 1 ∷ 0 ∷ []) ∷ [])
     -- 11 (004, table I): LCE 1, 1, 3
-    ∷ from (begin ∷ begin ∷ begin ∷ []) (linesOf (commit 1 ∷ commit 3 ∷ commit 2 ∷ []))
+    ∷ from (made 1) (begin ∷ begin ∷ begin ∷ []) (linesOf (commit 1 ∷ commit 3 ∷ commit 2 ∷ []))
       ((0 ∷ 1 ∷ []) ∷ (0 ∷ 1 ∷ []) ∷ (0 ∷ 3 ∷ []) ∷ [])
     -- 12: target 1 is held while 2 is open
-    ∷ from (begin ∷ begin ∷ commit 1 ∷ []) (linesOf (advanceLse 1 ∷ commit 2 ∷ advanceLse 1 ∷ []))
+    ∷ from (made 1) (begin ∷ begin ∷ commit 1 ∷ []) (linesOf (advanceLse 1 ∷ commit 2 ∷ advanceLse 1 ∷ []))
       ((10 ∷ []) ∷ (0 ∷ 2 ∷ []) ∷ (0 ∷ 1 ∷ []) ∷ [])
     ∷ []
 
 pub cases-hold : map observed cases ≡ map (λ c. c .expected) cases
-unfolding observed cases from snapshotAt purgedAt written tableA tableB
-cases-hold = refl
+unfolding agree alike observed cases from snapshotAt purgedAt written tableA tableB
+cases-hold = agree-eq (map observed cases) (map (λ c. c .expected) cases) refl

@@ -8,13 +8,14 @@ use Prim.Native.Nat.{ℕ, zero, suc, _-_, _%_}
 use lib.ListN.{replicate, set}
 use Rattle.lists.specs.Lists.{over}
 use Rattle.rules.specs.Limits.{lastEpoch, lastTicket}
-use Rattle.rules.specs.Manager.{readersOf, withClock, withLse, withReaders}
-use Rattle.rules.specs.Store.{Store, managerOf, stateOf, withManager}
+use Rattle.rules.specs.Manager.{Writer, writer, readersOf, withClock, withEc, withLse, withWriters, withReaders}
+use Rattle.rules.specs.Span.{Span, wordsOf, entriesOf}
+use Rattle.rules.specs.Store.{Store, managerOf, stateOf, withManager, laid, laidInPlace}
 use Rattle.rules.specs.Step.{Call, create, begin, append, clear, commit, rollback, beginRo, endRo, scan}
 use Rattle.rules.specs.Step.{advanceLse, purge, run}
 use Rattle.rules.specs.declared.Reader.{Reader}
 use Rattle.rules.specs.declared.Reader.the-variants.{Rw, Ro}
-use Rattle.rules.proofs.Look.{made, Look, linesOf, bytesTo, entriesIn, Case, observed}
+use Rattle.rules.proofs.Look.{made, Look, linesOf, bytesTo, entriesIn, Case, observed, alike, agree, agree-eq}
 
 -- a line that is only a number, and a line of 0 and a value
 only : ℕ → List ℕ
@@ -108,8 +109,8 @@ edges =
     ∷ []
 
 pub edges-hold : map observed edges ≡ map (λ c. c .expected) edges
-unfolding observed edges gap case look ok only lastEpoch
-edges-hold = refl
+unfolding agree alike observed edges gap case look ok only lastEpoch
+edges-hold = agree-eq (map observed edges) (map (λ c. c .expected) edges) refl
 
 -- ---- the order of the refusals: each neighbouring pair of each call, both of which hold
 
@@ -122,10 +123,22 @@ spoilt st = withManager (withClock (withLse (suc (managerOf st .clock .lce)) (ma
 ticketless : Store → Store
 ticketless st = withManager (withReaders (readersOf (managerOf st)) (suc lastTicket) (managerOf st)) st
 
--- transactions 1 and 2 in turn, n entries in all
-turns : ℕ → List Call
+-- n transactions are open, up to the last epoch
+crowd : ℕ → List Writer
+crowd zero = []
+crowd (suc n) = writer (lastEpoch - n) 0 [] ∷ crowd n
+
+crowded : ℕ → Store → Store
+crowded n st =
+    withManager (withWriters (crowd n) (withClock (withEc (suc lastEpoch) (managerOf st .clock)) (managerOf st))) st
+
+-- partition 0 has n entries, of transactions 2 and 1 in turn; laid at once, which a case computes faster than appends
+turns : ℕ → List Span
 turns zero = []
-turns (suc n) = append (suc (n % 2)) 0 (n ∷ []) ∷ turns n
+turns (suc n) = record { epoch = suc (n % 2); mark = 0; words = n ∷ [] } ∷ turns n
+
+filled : ℕ → Store → Store
+filled n st = laidInPlace 0 (turns n) st
 
 pub order : List Case
 order =
@@ -136,13 +149,13 @@ order =
     ∷ case (spoilt (run (begin ∷ []) (made lastEpoch))) [] (linesOf (begin ∷ [])) (only 5 ∷ [])
     -- a partition of 64 entries; an append that joins the last and a batch of no rows need none, any other needs one,
     -- and so does a clearing
-    ∷ case (made 1) (begin ∷ begin ∷ turns 64)
+    ∷ case (filled 62 (run (begin ∷ begin ∷ []) (made 1))) (append 2 0 (7 ∷ []) ∷ append 1 0 (7 ∷ []) ∷ [])
       (linesOf (append 9 8 [] ∷ clear 9 8 ∷ scan (Rw 9) 8 []
         ∷ append 9 0 (replicate 513 7) ∷ clear 9 0 ∷ scan (Ro 9) 0 []
         ∷ append 2 0 (replicate 449 7) ∷ append 2 0 (replicate 448 7)
         ∷ append 1 0 (5 ∷ []) ∷ append 2 0 [] ∷ append 2 0 (5 ∷ []) ∷ clear 1 0 ∷ []))
       (only 1 ∷ only 1 ∷ only 1 ∷ only 2 ∷ only 2 ∷ only 2 ∷ only 8 ∷ only 9 ∷ ok 65 ∷ ok 65 ∷ only 9 ∷ only 9 ∷ [])
-    ∷ case (run (replicate 32 begin) (made (lastEpoch - 31))) [] (linesOf (begin ∷ [])) (only 6 ∷ [])
+    ∷ case (crowded 32 (made (lastEpoch - 31))) [] (linesOf (begin ∷ [])) (only 6 ∷ [])
     ∷ case (ticketless (made 1)) [] (linesOf (beginRo 9 ∷ beginRo 0 ∷ [])) (only 4 ∷ only 6 ∷ [])
     ∷ case (ticketless (run (replicate 32 (beginRo 0)) (made 1))) [] (linesOf (beginRo 0 ∷ [])) (only 6 ∷ [])
     ∷ case (made 1) (begin ∷ beginRo 0 ∷ commit 1 ∷ []) (linesOf (advanceLse 2 ∷ advanceLse 1 ∷ [])) (only 4 ∷ only
@@ -150,5 +163,6 @@ order =
     ∷ []
 
 pub order-holds : map observed order ≡ map (λ c. c .expected) order
-unfolding observed order spoilt ticketless case ok only turns lastEpoch lastTicket
-order-holds = refl
+unfolding agree alike observed order spoilt ticketless crowded crowd filled turns case ok only lastEpoch lastTicket
+    laidInPlace laid wordsOf entriesOf
+order-holds = agree-eq (map observed order) (map (λ c. c .expected) order) refl

@@ -1,10 +1,15 @@
 -- How cases look at the store: a list of calls from a store made new, and a look at what they leave.
--- `observed` opens every definition, so that a case is proved by computing.
+-- `observed` opens every definition, so that a case is proved by computing. A table is one computed test, which fails
+-- sooner than a comparison of what all of it computes to.
 -- Assumes nothing.
-use mathlib.Core.Bool.{cond}
+use mathlib.Core.Path.{_≡_, refl}
+use mathlib.Core.Bool.{Bool, true, false, _&&_, cond}
 use mathlib.Core.List.{List, [], _∷_, map}
 use Prim.Native.Nat.{ℕ, zero, suc, _*_}
 use lib.ListN.{replicate}
+use lib.Dec.{eqb}
+use borrow.Author.Tests.{eqb-true}
+use Rattle.lists.proofs.Laws.Bools.{and-left, and-right}
 use Rattle.rules.specs.Limits.{rowsMax, entriesMax, areasMax, lastEpoch, lastTicket}
 use Rattle.rules.specs.Begin.{createdManager, begunManager}
 use Rattle.rules.specs.Close.{committedTxns, droppedTxns, settledLce, settled, committedManager}
@@ -91,3 +96,30 @@ unfolding made line lines bits looked lastEpoch lastTicket createdManager begunM
     beginRoAnswer endRoAnswer seesOf appliesOf flagsAt scanAnswer advanceLseAnswer purgeAnswer step run
     wordsAtOnes
 observed c = looked (c .look) (run (c .calls) (c .start))
+
+-- ---- a table's test
+
+module _ {A : Type 0} (test : A → A → Bool) where
+  -- as long as each other, and each pair passes the test
+  unfoldable pub alike : List A → List A → Bool
+  alike [] [] = true
+  alike [] (y ∷ ys) = false
+  alike (x ∷ xs) [] = false
+  alike (x ∷ xs) (y ∷ ys) = test x y && alike xs ys
+
+  module _ (exact : (x y : A) → test x y ≡ true → x ≡ y) where
+    alike-eq : (xs ys : List A) → alike xs ys ≡ true → xs ≡ ys
+    unfolding alike
+    alike-eq [] [] e = refl
+    alike-eq [] (y ∷ ys) e = cc
+    alike-eq (x ∷ xs) [] e = cc
+    alike-eq (x ∷ xs) (y ∷ ys) e =
+        let ih = alike-eq xs ys (and-right (test x y) (alike xs ys) e) in
+        let h = exact x y (and-left (test x y) (alike xs ys) e) in cc
+
+unfoldable pub agree : List (List (List ℕ)) → List (List (List ℕ)) → Bool
+agree = alike (alike (alike eqb))
+
+pub agree-eq : (xs ys : List (List (List ℕ))) → agree xs ys ≡ true → xs ≡ ys
+unfolding agree
+agree-eq = alike-eq (alike (alike eqb)) (alike-eq (alike eqb) (alike-eq eqb eqb-true))

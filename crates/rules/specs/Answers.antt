@@ -1,7 +1,7 @@
 -- 01's numbers and values for what a call answers. 01 "Refusals that come from the input", ".. from the
 -- state", and each call.
 -- In order: refusalNumber (the one table of refusals), Reply, replyOf (the one table of values), accepted, livePart.
--- Laws: proofs/Laws/Answers.antt.
+-- Laws: laws/proofs/Laws/Answers.antt.
 -- Assumes nothing.
 use mathlib.Core.Bool.{Bool}
 use mathlib.Core.List.{List, [], _∷_}

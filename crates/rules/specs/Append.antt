@@ -1,5 +1,5 @@
 -- Append and clear, on spans. 01 "Lots", Append, Clear; 004 III-C 1, 2.
--- In order: appended, cleared. Laws: proofs/Laws/Append.antt.
+-- In order: appended, cleared. Laws: laws/proofs/Laws/Append.antt.
 -- Assumes nothing.
 use mathlib.Core.Bool.{Bool, not, _&&_, cond}
 use mathlib.Core.List.{List, [], _∷_, _++_}

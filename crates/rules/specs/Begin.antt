@@ -1,5 +1,5 @@
 -- Making new and begin, in the manager. 01 "The books", first paragraph and Begin; 004 III-B "EC".
--- In order: createdManager, begunManager. Laws: proofs/Laws/Begin.antt.
+-- In order: createdManager, begunManager. Laws: laws/proofs/Laws/Begin.antt.
 -- Assumes nothing.
 use mathlib.Core.List.{List, [], _∷_, _++_}
 use Prim.Native.Nat.{ℕ, suc, _-_}

@@ -1,5 +1,5 @@
 -- The bitmap that a scan writes, byte for byte. 01 "Who sees a row", last paragraph.
--- In order: bytesFor, byteOf, packed, bitmapAfter. Laws: proofs/Laws/Bitmap.antt.
+-- In order: bytesFor, byteOf, packed, bitmapAfter. Laws: laws/proofs/Laws/Bitmap.antt.
 -- Assumes nothing.
 use mathlib.Core.Bool.{Bool, cond}
 use mathlib.Core.List.{List, [], _∷_, _++_}

@@ -2,7 +2,7 @@
 -- calls.
 -- In order: create, begin, close (commit and roll back), begin and end read-only, advance LSE, and those that change
 -- only the manager as one; append, clear, purge; scan.
--- Laws: proofs/Laws/Calls.antt.
+-- Laws: laws/proofs/Laws/Calls.antt.
 -- Assumes nothing.
 use mathlib.Core.Bool.{Bool, false, not, _&&_, cond}
 use mathlib.Core.List.{List}

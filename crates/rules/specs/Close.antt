@@ -1,7 +1,7 @@
 -- Commit and roll back, in the manager: the transaction is closed, then LCE is settled.
 -- 01 "The books", Commit, roll back; 004 III-B "LCE" and Table I, where only a commit moves LCE.
 -- In order: committedTxns, droppedTxns, settledLce, settled, committedManager, rolledBackManager. Laws:
--- proofs/Laws/Close.antt.
+-- laws/proofs/Laws/Close.antt.
 -- Assumes nothing.
 use mathlib.Core.Bool.{Bool, not, _&&_, _||_, cond}
 use mathlib.Core.List.{List, [], map, foldr}

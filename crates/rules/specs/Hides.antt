@@ -1,5 +1,5 @@
 -- Which rows a delete hides, and which a reader is shown. 01 "Who sees a row".
--- In order: hidden, flags. Laws: proofs/Laws/Hides.antt.
+-- In order: hidden, flags. Laws: laws/proofs/Laws/Hides.antt.
 -- Assumes nothing.
 use mathlib.Core.Bool.{Bool, not, _&&_, _||_}
 use mathlib.Core.List.{List, [], _∷_, _++_}

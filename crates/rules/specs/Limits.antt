@@ -1,6 +1,6 @@
 -- The numbers of 01, each named once. 01 "Words of this store", "The books", "Lots", "Refusals that come from
 -- the state".
--- Laws: proofs/Laws/Limits.antt.
+-- Laws: laws/proofs/Laws/Limits.antt.
 -- Assumes nothing.
 use Prim.Native.Nat.{ℕ, _*_}
 

@@ -1,7 +1,7 @@
 -- What demand 3 comes to for those who read pages and loads, over every history: a list of calls on a store that an
 -- accepted making new left. 01 "The ledger of demand 3"; "The books" (LCE); "Refusals" (5).
 -- In order: a history; it is sound; LCE; the calls that close a reader, and the rows that it adds; a page; a load; a
--- load lands whole; making new closes all. Proofs: proofs/Promises.antt.
+-- load lands whole; making new closes all. Proofs: laws/proofs/Promises.antt.
 -- Assumes nothing.
 use mathlib.Core.Path.{_≡_}
 use mathlib.Core.Bool.{Bool, true, false, not, _&&_, cond}

@@ -1,5 +1,5 @@
 -- Read-only transactions (01: pages) begun and ended. 01 "The books", Open a page.
--- In order: snapshotEpoch, begunRoManager, endedRoManager. Laws: proofs/Laws/ReadOnly.antt.
+-- In order: snapshotEpoch, begunRoManager, endedRoManager. Laws: laws/proofs/Laws/ReadOnly.antt.
 -- Assumes nothing.
 use mathlib.Core.Bool.{not, cond}
 use mathlib.Core.List.{[], _∷_, _++_}

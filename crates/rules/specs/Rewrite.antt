@@ -1,5 +1,5 @@
 -- Roll back and purge, on spans: what stays, joined. 01 "Lots", Roll back, Purge; 004 III-C 4, 5.
--- In order: joined, rolledBack, purged, skips. Laws: proofs/Laws/Rewrite.antt.
+-- In order: joined, rolledBack, purged, skips. Laws: laws/proofs/Laws/Rewrite.antt.
 -- Assumes nothing.
 use mathlib.Core.Bool.{Bool, not, _&&_, cond}
 use mathlib.Core.List.{List, [], _∷_, _++_, foldr}

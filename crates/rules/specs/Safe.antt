@@ -1,5 +1,5 @@
 -- How far LSE may move. 01 "The books", Move LSE; 004 III-C 5.
--- In order: blocked, greatestTarget, targetOf, advancedManager. Laws: proofs/Laws/Safe.antt.
+-- In order: blocked, greatestTarget, targetOf, advancedManager. Laws: laws/proofs/Laws/Safe.antt.
 -- Assumes nothing.
 use mathlib.Core.Bool.{Bool, _&&_, _||_, cond}
 use mathlib.Core.List.{[], _++_, map, foldr}

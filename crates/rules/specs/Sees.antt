@@ -1,5 +1,5 @@
 -- Which epochs a reader sees, and which deletes it applies. 01 "Who sees a row"; 004 III-C 3.
--- In order: seesRw, appliesRw, upTo. Laws: proofs/Laws/Sees.antt.
+-- In order: seesRw, appliesRw, upTo. Laws: laws/proofs/Laws/Sees.antt.
 -- Assumes nothing.
 use mathlib.Core.Bool.{Bool, not, _&&_, _||_}
 use mathlib.Core.List.{List}

@@ -1,6 +1,6 @@
 -- A partition's rows and entries as spans: an entry with the rows that it adds. 01 "Words", Entry, and
 -- "Lots".
--- In order: Span, spans, entriesOf, wordsOf. Laws: proofs/Laws/Span.antt (spans and entriesOf are inverse).
+-- In order: Span, spans, entriesOf, wordsOf. Laws: laws/proofs/Laws/Span.antt (spans and entriesOf are inverse).
 -- Assumes nothing.
 use mathlib.Core.Bool.{Bool}
 use mathlib.Core.List.{List, [], _∷_}

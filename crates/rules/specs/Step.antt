@@ -1,5 +1,6 @@
 -- One call on the store, for all input, and a list of calls. 01 "Refusals": a refusal changes nothing.
--- In order: Call, the calls on the manager by name, callOf, onScan, Outcome, step, run. Laws: proofs/Laws/Sound.antt.
+-- In order: Call, the calls on the manager by name, callOf, onScan, Outcome, step, run. Laws:
+-- laws/proofs/Laws/Sound.antt.
 -- Assumes nothing.
 use mathlib.Core.Bool.{Bool, cond}
 use mathlib.Core.List.{List, [], _∷_}

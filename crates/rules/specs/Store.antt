@@ -1,7 +1,7 @@
 -- The whole store: the books and the lent areas; a partition's spans, and spans laid into an area. 01 "Lots".
 -- In order: Store, reading a partition, setters, laid, append and clear in place, create, roll back and purge into the
 -- spare area.
--- Laws: proofs/Laws/Store.antt.
+-- Laws: laws/proofs/Laws/Store.antt.
 -- Assumes nothing.
 use mathlib.Core.Bool.{Bool, cond}
 use mathlib.Core.List.{List, [], _∷_, map}

@@ -1,6 +1,6 @@
 -- What a reader hides by one delete, the greatest that it applies: the same rows as by all of them (specs/Hides.antt;
 -- `hidden-top`). 01 "Who sees a row".
--- In order: Top, topDelete, covers, flagsBy. Laws: proofs/Laws/TopDelete.antt.
+-- In order: Top, topDelete, covers, flagsBy. Laws: laws/proofs/Laws/TopDelete.antt.
 -- Assumes nothing.
 use mathlib.Core.Bool.{Bool, not, _&&_, _||_, cond}
 use mathlib.Core.List.{List, [], _∷_, _++_}

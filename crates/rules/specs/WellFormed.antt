@@ -1,7 +1,7 @@
 -- 01's *sound*, over the whole store, as a test. 01 "Refusals that come from the state", last paragraph.
 -- In order: clock, read-write transactions, read-only ones, managerOk, areas, partitions, lengths of the lent
 -- areas, wellFormed.
--- Laws: proofs/Laws/WellFormed.antt.
+-- Laws: laws/proofs/Laws/WellFormed.antt.
 -- Assumes nothing.
 use mathlib.Core.Bool.{Bool, true, not, _&&_, _||_}
 use mathlib.Core.List.{List, [], _∷_, map}

@@ -7,7 +7,7 @@ use borrow.Author.Tests.{lt-ltb}
 use Rattle.rules.specs.Limits.{lastEpoch}
 use Rattle.rules.specs.Manager.{withEc}
 use Rattle.rules.specs.declared.Clock.{Clock}
-use Rattle.rules.proofs.Laws.Limits.{lastEpoch-fits}
+use Rattle.laws.proofs.Laws.Limits.{lastEpoch-fits}
 use Rattle.epoch.specs.Ticks.{stepped, ticked}
 
 pub ticked-next : (c : Clock) → c .ec ≤ lastEpoch

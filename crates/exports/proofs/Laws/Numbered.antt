@@ -22,10 +22,10 @@ use Rattle.rules.specs.declared.Command.{Command}
 use Rattle.rules.specs.declared.Command.the-variants.{Create, Manage, Append, Clear, RollBack, Scan, Purge}
 use Rattle.rules.specs.declared.Entry.{Entry}
 use Rattle.rules.proofs.Command.{the-type}
-use Rattle.rules.proofs.Laws.Calls.{purge-passed}
-use Rattle.rules.proofs.Laws.Live.{purge-live}
-use Rattle.rules.proofs.Laws.Sound.{sound-step, refused-same}
-use Rattle.rules.proofs.Laws.WellFormed.{StoreOk, store-facts}
+use Rattle.laws.proofs.Laws.Calls.{purge-passed}
+use Rattle.laws.proofs.Laws.Live.{purge-live}
+use Rattle.laws.proofs.Laws.Sound.{sound-step, refused-same}
+use Rattle.laws.proofs.Laws.WellFormed.{StoreOk, store-facts}
 use Rattle.store.specs.Kept.{storeOf, Left}
 use Rattle.rules.specs.declared.Kept.{Kept}
 use Rattle.dispatch.specs.Dispatch.{Did}

@@ -8,7 +8,7 @@ use types.Run.{OneOf, miss}
 use Rattle.rules.proofs.Answer.{the-type}
 use Rattle.rules.specs.declared.Answer.{Answer}
 use Rattle.rules.specs.Answers.{livePart}
-use Rattle.rules.proofs.Laws.Answers.{answer-cases}
+use Rattle.laws.proofs.Laws.Answers.{answer-cases}
 use borrow.Author.Needs.{needs}
 use Rattle.live_part.proofs.in_force.Statement.{statement}
 use Rattle.live_part.proofs.in_force.Tie as tie

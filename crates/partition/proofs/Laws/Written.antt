@@ -22,11 +22,11 @@ use Rattle.rules.specs.Append.{deleteSpan, extended, appended, cleared}
 use Rattle.rules.specs.Store.{stateOf, Store, managerOf, partitionAt, spansAt, laid, laidInPlace}
 use Rattle.rules.specs.declared.Entry.{Entry}
 use Rattle.rules.specs.declared.Partition.{Partition}
-use Rattle.rules.proofs.Laws.Span.{length-entriesOf}
-use Rattle.rules.proofs.Laws.Append.{words-appended, words-cleared, length-cleared}
+use Rattle.laws.proofs.Laws.Span.{length-entriesOf}
+use Rattle.laws.proofs.Laws.Append.{words-appended, words-cleared, length-cleared}
 use Rattle.rules.specs.WellFormed.{entryOk}
-use Rattle.rules.proofs.Laws.SpansTest.{entries-ok}
-use Rattle.rules.proofs.Laws.WellFormed.{StoreOk}
+use Rattle.laws.proofs.Laws.SpansTest.{entries-ok}
+use Rattle.laws.proofs.Laws.WellFormed.{StoreOk}
 use Rattle.lent.specs.Entries.{none, movedEnd}
 use Rattle.partition.specs.Rows.{putRows}
 use Rattle.partition.specs.Append.{inRange, fullIf, stays, grows, lastOf, keptIn, appendAt, appendPlan, clearPlan}

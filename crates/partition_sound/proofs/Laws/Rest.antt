@@ -18,7 +18,7 @@ use Rattle.rules.specs.Store.{noPartition}
 use Rattle.rules.specs.WellFormed.{areasOk}
 use Rattle.rules.specs.declared.Entry.{Entry}
 use Rattle.rules.specs.declared.Partition.{Partition}
-use Rattle.rules.proofs.Laws.WellFormed.{areas-facts}
+use Rattle.laws.proofs.Laws.WellFormed.{areas-facts}
 use Rattle.area.specs.Load.{partitionIn}
 use Rattle.lent.specs.Shapes.{turned}
 use Rattle.lent.proofs.Turned.{turned-none, turned-part}

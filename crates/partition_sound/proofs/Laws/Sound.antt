@@ -16,7 +16,7 @@ use Rattle.rules.specs.Manager.{recordsOf}
 use Rattle.rules.specs.Store.{Store, managerOf}
 use Rattle.rules.specs.WellFormed.{managerOk, areasOk, epochOk, endsOk, alike, apart, partitionOk, lengthsOk}
 use Rattle.rules.specs.WellFormed.{wellFormed}
-use Rattle.rules.proofs.Laws.Views.{epochs-views}
+use Rattle.laws.proofs.Laws.Views.{epochs-views}
 use Rattle.rules.specs.declared.Clock.{Clock}
 use Rattle.rules.specs.declared.Entry.{Entry}
 use Rattle.rules.specs.Manager.{Manager}

@@ -16,7 +16,7 @@ use Rattle.lists.proofs.Laws.Parts.{length-over}
 use Rattle.rules.specs.Step.{callOf, step}
 use Rattle.rules.specs.Store.{Store}
 use Rattle.rules.specs.declared.Command.{Command}
-use Rattle.rules.proofs.Laws.Step.{scan-or}
+use Rattle.laws.proofs.Laws.Step.{scan-or}
 use Rattle.session_text.specs.Grammar.{numbersIn, parsed, isCall}
 use Rattle.session_text.specs.Lines.{sizeIn, writtenIn}
 use Rattle.session_text.specs.Print.{printed, question}

@@ -21,8 +21,8 @@ use Rattle.rules.specs.Store.{Store, partitionAt}
 use Rattle.rules.specs.declared.Answer.{Answer}
 use Rattle.rules.specs.declared.Command.{Command}
 use Rattle.rules.specs.declared.Command.the-variants.{Create, Scan}
-use Rattle.rules.proofs.Laws.Step.{scan-or}
-use Rattle.rules.proofs.Laws.Answers.{values-few}
+use Rattle.laws.proofs.Laws.Step.{scan-or}
+use Rattle.laws.proofs.Laws.Answers.{values-few}
 use Rattle.session_text.specs.Grammar.{areNumbers, numbersOf, numbersIn, parsed, parsedShort, lineMax, isDigit}
 use Rattle.session_text.specs.Grammar.{withOne, withTwo, withMore, withNumbers, scanBy}
 use Rattle.session_text.specs.Numbers.{grownBy}

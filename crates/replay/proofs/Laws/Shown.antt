@@ -24,7 +24,7 @@ use Rattle.rules.specs.declared.Command.the-variants.{Scan}
 use Rattle.rules.specs.declared.Partitions.{Partitions}
 use Rattle.rules.specs.declared.Reader.{Reader}
 use Rattle.rules.proofs.Command.{the-type}
-use Rattle.rules.proofs.Laws.Step.{scan-or}
+use Rattle.laws.proofs.Laws.Step.{scan-or}
 use Rattle.reply.specs.Reply.{wordsOf}
 use Rattle.reply.specs.declared.ReplyWords.{ReplyWords}
 use Rattle.session_text.specs.Lines.{sizeIn, writtenIn}

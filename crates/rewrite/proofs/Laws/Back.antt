@@ -14,7 +14,7 @@ use Rattle.lists.proofs.Laws.Bools.{split, and-left, and-right}
 use Rattle.rules.specs.Span.{Span, isDelete}
 use Rattle.rules.specs.Append.{isRowsOf, rowsSpan}
 use Rattle.rules.specs.Rewrite.{joinedOnto, joined}
-use Rattle.rules.proofs.Laws.Rewrite.{joins, Apart}
+use Rattle.laws.proofs.Laws.Rewrite.{joins, Apart}
 
 -- spans held the last first, in order
 unfoldable pub back : List Span → List Span

@@ -12,7 +12,7 @@ use Rattle.lists.proofs.Laws.Bools.{split}
 use Rattle.rules.specs.Span.{Span, entriesOf, wordsOf}
 use Rattle.rules.specs.Sees.{upTo}
 use Rattle.rules.specs.Rewrite.{joinedOnto, joined, hasEpoch, skips}
-use Rattle.rules.proofs.Laws.Rewrite.{joins}
+use Rattle.laws.proofs.Laws.Rewrite.{joins}
 use Rattle.visible.proofs.Laws.Flags.{blank, hidden-blank}
 use Rattle.rewrite_plan.specs.Plan.{rollEpochs, purgeEpochs}
 use Rattle.rewrite.specs.Kept.{kept, asRewritten}

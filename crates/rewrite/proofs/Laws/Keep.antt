@@ -16,8 +16,8 @@ use Rattle.lists.proofs.Laws.Bools.{split, and-right}
 use Rattle.rules.specs.Limits.{entriesMax}
 use Rattle.rules.specs.Span.{Span, isDelete, entriesOf, wordsOf}
 use Rattle.rules.specs.declared.Entry.{Entry}
-use Rattle.rules.proofs.Laws.Span.{wordsOf-append}
-use Rattle.rules.proofs.Laws.Rewrite.{joins}
+use Rattle.laws.proofs.Laws.Span.{wordsOf-append}
+use Rattle.laws.proofs.Laws.Rewrite.{joins}
 use Rattle.rules.specs.Bare.{bareSpan}
 use Rattle.lent.specs.Entries.{none}
 use Rattle.rewrite.specs.Kept.{renewed}

@@ -14,9 +14,9 @@ use Rattle.lists.proofs.Laws.Bools.{split}
 use Rattle.rules.specs.Limits.{partitionsMax, areasMax, rowsMax, entriesMax}
 use Rattle.rules.specs.Span.{spans}
 use Rattle.rules.specs.Store.{Store, managerOf, partitionAt, entriesAt, rowsAt, spansAt}
-use Rattle.rules.proofs.Laws.SpansOk.{MarkOk}
-use Rattle.rules.proofs.Laws.SpansTest.{EntriesOk, entries-ok}
-use Rattle.rules.proofs.Laws.WellFormed.{StoreOk}
+use Rattle.laws.proofs.Laws.SpansOk.{MarkOk}
+use Rattle.laws.proofs.Laws.SpansTest.{EntriesOk, entries-ok}
+use Rattle.laws.proofs.Laws.WellFormed.{StoreOk}
 use Rattle.area.specs.Area.{entriesIn, areaAt}
 use Rattle.rewrite.specs.Copied.{areasApart}
 use Rattle.rewrite.proofs.Laws.Copied.{apart-before, apart-after}

@@ -25,9 +25,9 @@ use Rattle.rules.specs.Rewrite.{joined, hasEpoch, rolledBack, purgedIn, purged,
 use Rattle.rules.specs.WellFormed.{endsOk, epochOk}
 use Rattle.rules.specs.declared.Entry.{Entry}
 use Rattle.rules.specs.Manager.{Manager}
-use Rattle.rules.proofs.Laws.Span.{end-ok, endsOk-le, length-entriesOf}
-use Rattle.rules.proofs.Laws.Rewrite.{words-joined}
-use Rattle.rules.proofs.Laws.SpansOk.{MarkOk, EpochOk}
+use Rattle.laws.proofs.Laws.Span.{end-ok, endsOk-le, length-entriesOf}
+use Rattle.laws.proofs.Laws.Rewrite.{words-joined}
+use Rattle.laws.proofs.Laws.SpansOk.{MarkOk, EpochOk}
 use Rattle.lent.specs.Entries.{none}
 use Rattle.area.specs.Area.{entriesIn}
 use Rattle.rewrite_plan.specs.Plan.{spansIn, planOf, rollEpochs, purgeEpochs}

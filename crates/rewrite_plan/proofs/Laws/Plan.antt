@@ -16,7 +16,7 @@ use Rattle.rules.specs.Sees.{upTo}
 use Rattle.rules.specs.Hides.{hidden}
 use Rattle.rules.specs.declared.Entry.{Entry}
 use Rattle.rules.specs.Top.{topDelete, covers}
-use Rattle.rules.proofs.Laws.TopDelete.{hidden-top}
+use Rattle.laws.proofs.Laws.TopDelete.{hidden-top}
 use Rattle.area.specs.declared.Area.{Area}
 use Rattle.rules.specs.Bare.{bareSpan, bare}
 use Rattle.lent.specs.Entries.{none}

@@ -27,9 +27,9 @@ use Rattle.rules.specs.declared.Answer.the-variants.{Rewritten, Skipped, Refuse
 use Rattle.rules.specs.declared.Refusal.the-variants.{UnknownPartition, Unsound}
 use Rattle.rules.specs.declared.Entry.{Entry}
 use Rattle.rules.specs.declared.State.{State}
-use Rattle.rules.proofs.Laws.Rewrite.{length-joined, length-purgedIn}
-use Rattle.rules.proofs.Laws.Span.{length-entriesOf}
-use Rattle.rules.proofs.Laws.WellFormed.{StoreOk, store-facts}
+use Rattle.laws.proofs.Laws.Rewrite.{length-joined, length-purgedIn}
+use Rattle.laws.proofs.Laws.Span.{length-entriesOf}
+use Rattle.laws.proofs.Laws.WellFormed.{StoreOk, store-facts}
 use Rattle.lent.specs.Shapes.{saved}
 use Rattle.lent.proofs.Saved.{saved-none, saved-over}
 use Rattle.rewrite_plan.specs.Plan.{spansIn}

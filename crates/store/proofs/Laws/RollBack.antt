@@ -18,8 +18,8 @@ use Rattle.rules.specs.Step.{step, rollback}
 use Rattle.rules.specs.declared.Entry.{Entry}
 use Rattle.rules.specs.declared.Partitions.{Partitions}
 use Rattle.rules.specs.declared.State.{State}
-use Rattle.rules.proofs.Laws.Calls.{close-passed}
-use Rattle.rules.proofs.Laws.WellFormed.{store-facts}
+use Rattle.laws.proofs.Laws.Calls.{close-passed}
+use Rattle.laws.proofs.Laws.WellFormed.{store-facts}
 use Rattle.undo.specs.Lots.{rollingOf, rolledLots}
 use Rattle.undo.proofs.Laws.Lots.{lots-rolled, lots-left}
 use Rattle.store.specs.Kept.{storeOf, Left, rollBackKept}

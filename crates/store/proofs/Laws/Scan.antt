@@ -25,11 +25,11 @@ use Rattle.rules.specs.declared.Reader.{Reader}
 use Rattle.rules.specs.declared.Reader.the-variants.{Rw, Ro}
 use Rattle.rules.specs.declared.Entry.{Entry}
 use Rattle.rules.specs.declared.State.{State}
-use Rattle.rules.proofs.Laws.Bitmap.{length-packed}
-use Rattle.rules.proofs.Laws.Answers.{refused}
-use Rattle.rules.proofs.Laws.Hides.{length-flags}
-use Rattle.rules.proofs.Laws.SpansTest.{EntriesOk, entries-ok}
-use Rattle.rules.proofs.Laws.WellFormed.{StoreOk, store-facts}
+use Rattle.laws.proofs.Laws.Bitmap.{length-packed}
+use Rattle.laws.proofs.Laws.Answers.{refused}
+use Rattle.laws.proofs.Laws.Hides.{length-flags}
+use Rattle.laws.proofs.Laws.SpansTest.{EntriesOk, entries-ok}
+use Rattle.laws.proofs.Laws.WellFormed.{StoreOk, store-facts}
 use Rattle.visible.specs.declared.View.{View}
 use Rattle.visible.specs.View.{seesView, appliesView}
 use Rattle.visible.specs.Scan.{scanOk, scanned, bitmapScanned}

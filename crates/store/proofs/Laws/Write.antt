@@ -31,9 +31,9 @@ use Rattle.rules.specs.declared.Entry.{Entry}
 use Rattle.rules.specs.declared.Partition.{Partition}
 use Rattle.rules.specs.declared.State.{State}
 use Rattle.rules.proofs.State as state-type
-use Rattle.rules.proofs.Laws.Append.{words-appended, length-cleared}
-use Rattle.rules.proofs.Laws.Answers.{refused}
-use Rattle.rules.proofs.Laws.WellFormed.{StoreOk, store-facts}
+use Rattle.laws.proofs.Laws.Append.{words-appended, length-cleared}
+use Rattle.laws.proofs.Laws.Answers.{refused}
+use Rattle.laws.proofs.Laws.WellFormed.{StoreOk, store-facts}
 use Rattle.lent.specs.Entries.{none, movedEnd}
 use Rattle.partition.specs.Rows.{putRows}
 use Rattle.partition.specs.Areas.{withPartition}

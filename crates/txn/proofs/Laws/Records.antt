@@ -24,8 +24,8 @@ use Rattle.rules.specs.declared.RwTxn.{RwTxn}
 use Rattle.rules.specs.declared.RwTxns.{RwTxns}
 use Rattle.rules.specs.declared.RoTxn.{RoTxn}
 use Rattle.rules.specs.Manager.{Manager}
-use Rattle.rules.proofs.Laws.Manager.{manager-facts}
-use Rattle.rules.proofs.Laws.Views.{Fits, rows-wide, views-rows, views-whole, views-fit}
+use Rattle.laws.proofs.Laws.Manager.{manager-facts}
+use Rattle.laws.proofs.Laws.Views.{Fits, rows-wide, views-rows, views-whole, views-fit}
 use Rattle.txn_find.proofs.Laws.Places.{Sized}
 use Rattle.txn.specs.Records.{writersWith, tableWith, viewed, Tidy, TidyReaders}
 

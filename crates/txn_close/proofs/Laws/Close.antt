@@ -27,9 +27,9 @@ use Rattle.rules.specs.Store.{withManagerIn}
 use Rattle.rules.specs.declared.Kept.{Kept}
 use Rattle.rules.specs.declared.State.{State}
 use Rattle.rules.proofs.State as state-type
-use Rattle.rules.proofs.Laws.Manager.{WriterFacts, manager-facts, opens-epoch}
-use Rattle.rules.proofs.Laws.Close.{Unsettled, committed-unsettled, dropped-unsettled}
-use Rattle.rules.proofs.Laws.Views.{Fits, writers-length}
+use Rattle.laws.proofs.Laws.Manager.{WriterFacts, manager-facts, opens-epoch}
+use Rattle.laws.proofs.Laws.Close.{Unsettled, committed-unsettled, dropped-unsettled}
+use Rattle.laws.proofs.Laws.Views.{Fits, writers-length}
 use Rattle.txn.specs.Kept.{keptOf}
 use Rattle.txn.specs.Records.{writersWith, tableWith, viewed, Tidy}
 use Rattle.txn.proofs.Laws.Records.{viewed-with, tidy-with, writers-tidy}

@@ -15,7 +15,7 @@ use Rattle.lists.proofs.Laws.Select.{gather-append, length-rows, take-rows, dro
 use Rattle.rules.specs.Limits.{writersMax, depsMax, depsAll}
 use Rattle.rules.specs.Manager.{Writer, noRw, recordOf, rowOf}
 use Rattle.rules.specs.declared.RwTxns.{RwTxns}
-use Rattle.rules.proofs.Laws.Views.{Fits, rows-wide}
+use Rattle.laws.proofs.Laws.Views.{Fits, rows-wide}
 use Rattle.txn.specs.Records.{cut, writersWith, tableWith, viewed, Tidy}
 use Rattle.txn.proofs.Laws.Records.{viewed-length, viewed-fit, used-records, used-words, tidy-places}
 

@@ -20,8 +20,8 @@ use Rattle.rules.specs.Close.{unblocked, settledLce, settled}
 use Rattle.rules.specs.declared.RwTxn.{RwTxn}
 use Rattle.rules.specs.declared.RwTxns.{RwTxns}
 use Rattle.rules.specs.Manager.{Manager}
-use Rattle.rules.proofs.Laws.Manager.{epochs}
-use Rattle.rules.proofs.Laws.Close.{reached, kept}
+use Rattle.laws.proofs.Laws.Manager.{epochs}
+use Rattle.laws.proofs.Laws.Close.{reached, kept}
 use Rattle.txn.specs.Records.{viewed}
 use Rattle.txn_close.specs.Close.{lead, runLce, reachOf}
 use Rattle.txn_close.specs.declared.close.Reached.{Reached}

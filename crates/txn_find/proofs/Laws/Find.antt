@@ -14,7 +14,7 @@ use Rattle.rules.specs.Limits.{writersMax, readersMax, depsMax}
 use Rattle.rules.specs.Manager.{noWriter, noRw, noRo, recordsOf, view, views, writersOf, readersOf, opens, hasTicket}
 use Rattle.rules.specs.declared.RwTxn.{RwTxn}
 use Rattle.rules.specs.Manager.{Manager}
-use Rattle.rules.proofs.Laws.Views.{writers-length, views-at}
+use Rattle.laws.proofs.Laws.Views.{writers-length, views-at}
 use Rattle.txn_find.specs.Find.{findFrom, opensAt, writerAt, readerAt}
 use Rattle.txn_find.specs.declared.Found.{Found}
 use Rattle.txn_find.specs.declared.Found.the-variants.{At, Nothing}

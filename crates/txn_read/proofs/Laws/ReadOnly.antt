@@ -13,7 +13,7 @@ use Rattle.rules.specs.ReadOnly.{endedRoManager}
 use Rattle.rules.specs.WellFormed.{managerOk}
 use Rattle.rules.specs.declared.RoTxn.{RoTxn}
 use Rattle.rules.specs.Manager.{Manager}
-use Rattle.rules.proofs.Laws.Manager.{manager-facts}
+use Rattle.laws.proofs.Laws.Manager.{manager-facts}
 use Rattle.txn.specs.Records.{cut}
 use Rattle.txn.proofs.Laws.Cut.{drop-one}
 use Rattle.txn_find.specs.Find.{readerAt}

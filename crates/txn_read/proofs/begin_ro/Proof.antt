@@ -13,7 +13,7 @@ use Rattle.rules.specs.Manager.{managerIn}
 use Rattle.rules.specs.ReadOnly.{snapshotEpoch, begunRoManager}
 use Rattle.rules.specs.Calls.{beginRoAnswer}
 use Rattle.rules.specs.WellFormed.{managerOk}
-use Rattle.rules.proofs.Laws.Manager.{manager-facts}
+use Rattle.laws.proofs.Laws.Manager.{manager-facts}
 use Rattle.txn_find.proofs.Laws.Places.{sized}
 use Rattle.txn.proofs.Laws.Records.{readers-tidy, parts-sound-is}
 use Rattle.txn_read.proofs.begin_ro.Statement.{statement}

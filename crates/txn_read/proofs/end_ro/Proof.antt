@@ -13,7 +13,7 @@ use Rattle.rules.specs.WellFormed.{managerOk}
 use Rattle.rules.specs.declared.Answer.the-variants.{EndedRo}
 use Rattle.rules.specs.declared.Kept.{Kept}
 use Rattle.rules.specs.declared.State.{State}
-use Rattle.rules.proofs.Laws.Manager.{manager-facts}
+use Rattle.laws.proofs.Laws.Manager.{manager-facts}
 use Rattle.txn_find.proofs.Laws.Find.{reader-stands, reader-none}
 use Rattle.txn_find.proofs.Laws.Places.{sized}
 use Rattle.txn.proofs.Laws.Records.{readers-tidy, parts-sound-is}

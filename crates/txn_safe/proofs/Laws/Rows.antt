@@ -12,7 +12,7 @@ use Rattle.lists.proofs.Laws.Places.{Scan, scan-start, scan-next}
 use Rattle.rules.specs.Limits.{writersMax, depsMax}
 use Rattle.rules.specs.Manager.{Writer, noWriter, noRw, writer, views}
 use Rattle.rules.specs.declared.RwTxns.{RwTxns}
-use Rattle.rules.proofs.Laws.Views.{length-views, views-at}
+use Rattle.laws.proofs.Laws.Views.{length-views, views-at}
 use Rattle.txn_find.specs.Find.{rowAt}
 
 module _ (ts : RwTxns) (ds : List ℕ) (len : length (ts .at) ≡ writersMax) where

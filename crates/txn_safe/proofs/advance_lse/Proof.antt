@@ -9,7 +9,7 @@ use Rattle.lists.proofs.Laws.Branches.{tests, said}
 use Rattle.rules.specs.Safe.{blocked, targetOf, advancedManager}
 use Rattle.rules.specs.Calls.{advanceLseAnswer}
 use Rattle.rules.specs.WellFormed.{managerOk}
-use Rattle.rules.proofs.Laws.Safe.{target-greatest}
+use Rattle.laws.proofs.Laws.Safe.{target-greatest}
 use Rattle.rules.specs.Manager.{managerIn}
 use Rattle.txn_find.proofs.Laws.Places.{sized}
 use Rattle.txn.proofs.Laws.Records.{parts-sound-is}

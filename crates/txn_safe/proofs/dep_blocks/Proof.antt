@@ -15,7 +15,7 @@ use Rattle.lists.specs.Lists.{anyOf}
 use Rattle.lists.proofs.Laws.Places.{Scan, scan-on, scan-end, from-next}
 use Rattle.rules.specs.Limits.{writersMax}
 use Rattle.rules.specs.Manager.{views}
-use Rattle.rules.proofs.Laws.Views.{views-take}
+use Rattle.laws.proofs.Laws.Views.{views-take}
 use Rattle.txn.specs.Records.{viewed}
 use Rattle.txn_find.proofs.Laws.Places.{writers-32}
 use Rattle.txn_safe.specs.Safe.{depBlocks}

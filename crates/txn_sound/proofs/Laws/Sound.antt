@@ -26,7 +26,7 @@ use Rattle.rules.specs.declared.RwTxn.{RwTxn}
 use Rattle.rules.specs.declared.RwTxns.{RwTxns}
 use Rattle.rules.specs.declared.RoTxns.{RoTxns}
 use Rattle.rules.specs.Manager.{Manager}
-use Rattle.rules.proofs.Laws.Manager.{epochs, tickets, opensBelow}
+use Rattle.laws.proofs.Laws.Manager.{epochs, tickets, opensBelow}
 use Rattle.txn_sound.specs.Sound.{ranked, waitsOk, rowOk, recordOk, writersRanked, writersTested, readersRanked}
 use Rattle.txn_sound.specs.Sound.{readersTested}
 

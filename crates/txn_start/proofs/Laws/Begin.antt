@@ -22,7 +22,7 @@ use Rattle.rules.specs.Manager.{managerWith}
 use Rattle.rules.specs.Begin.{begunTxn, begunManager}
 use Rattle.rules.specs.declared.RwTxn.{RwTxn}
 use Rattle.rules.specs.Manager.{Manager}
-use Rattle.rules.proofs.Laws.Views.{rows-wide}
+use Rattle.laws.proofs.Laws.Views.{rows-wide}
 use Rattle.txn.specs.Records.{Tidy}
 use Rattle.txn.proofs.Laws.Records.{viewed-length, viewed-fit, used-records, tidy-places}
 use Rattle.txn_start.specs.Begin.{opened, openedIn, recordedIn}

@@ -12,7 +12,7 @@ use Rattle.rules.specs.Limits.{lastEpoch, writersMax}
 use Rattle.rules.specs.Manager.{managerIn}
 use Rattle.rules.specs.Calls.{beginAnswer}
 use Rattle.rules.specs.WellFormed.{managerOk}
-use Rattle.rules.proofs.Laws.Manager.{manager-facts}
+use Rattle.laws.proofs.Laws.Manager.{manager-facts}
 use Rattle.epoch.proofs.Laws.Ticks.{ticked-next}
 use Rattle.txn_find.proofs.Laws.Places.{sized}
 use Rattle.txn.proofs.Laws.Records.{writers-tidy, parts-sound-is}

@@ -18,10 +18,10 @@ use Rattle.rules.specs.Rewrite.{rolledBack}
 use Rattle.rules.specs.Store.{Store, partitionAt, spansAt, rolledBackAt, rolledBackBelow}
 use Rattle.rules.specs.declared.Entry.{Entry}
 use Rattle.rules.specs.declared.Partitions.{Partitions}
-use Rattle.rules.proofs.Laws.Span.{length-entriesOf}
-use Rattle.rules.proofs.Laws.Sound.{length-rolledBack}
-use Rattle.rules.proofs.Laws.Store.{rolledBack-below}
-use Rattle.rules.proofs.Laws.WellFormed.{StoreOk}
+use Rattle.laws.proofs.Laws.Span.{length-entriesOf}
+use Rattle.laws.proofs.Laws.Sound.{length-rolledBack}
+use Rattle.laws.proofs.Laws.Store.{rolledBack-below}
+use Rattle.laws.proofs.Laws.WellFormed.{StoreOk}
 use Rattle.lent.specs.Entries.{none}
 use Rattle.lent.specs.Shapes.{saved}
 use Rattle.lent.proofs.Saved.{saved-none, saved-over}

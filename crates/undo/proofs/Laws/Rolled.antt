@@ -13,8 +13,8 @@ use Rattle.rules.specs.Span.{Span, wordsOf}
 use Rattle.rules.specs.Rewrite.{hasEpoch, rolledBack}
 use Rattle.rules.specs.Store.{Store, managerOf, partitionAt, rowsAt, spansAt, laid, laidInSpare}
 use Rattle.rules.specs.Store.{rolledBackAt}
-use Rattle.rules.proofs.Laws.SpansTest.{EntriesOk}
-use Rattle.rules.proofs.Laws.WellFormed.{StoreOk}
+use Rattle.laws.proofs.Laws.SpansTest.{EntriesOk}
+use Rattle.laws.proofs.Laws.WellFormed.{StoreOk}
 use Rattle.area.specs.Area.{entriesIn}
 use Rattle.rewrite.specs.Kept.{asRewritten}
 use Rattle.rewrite.specs.Copied.{rowsCopied}

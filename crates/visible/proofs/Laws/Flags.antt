@@ -14,10 +14,10 @@ use Rattle.rules.specs.declared.Entry.{Entry}
 use Rattle.rules.specs.Span.{Span, spans}
 use Rattle.rules.specs.Hides.{hidden, flagsIn, flags}
 use Rattle.rules.specs.WellFormed.{endsOk}
-use Rattle.rules.proofs.Laws.Span.{end-ok, endsOk-le, words-spans}
-use Rattle.rules.proofs.Laws.Hides.{length-flags}
+use Rattle.laws.proofs.Laws.Span.{end-ok, endsOk-le, words-spans}
+use Rattle.laws.proofs.Laws.Hides.{length-flags}
 use Rattle.rules.specs.Top.{topDelete, flagsBy}
-use Rattle.rules.proofs.Laws.TopDelete.{flags-top}
+use Rattle.laws.proofs.Laws.TopDelete.{flags-top}
 use Rattle.rules.specs.Bare.{bare}
 use Rattle.visible.specs.Flags.{flagsOf}
 

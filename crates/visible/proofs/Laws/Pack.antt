@@ -10,7 +10,7 @@ use native.Mathlib.Omega.{arith}
 use lib.ListN.{length, take, drop, getD, set, replicate, length-take}
 use lib.Seq.{take-all, drop-cons, drop-drop, set-at, take-nil, drop-nil}
 use Rattle.rules.specs.Bitmap.{bytesFor, byteOf, packed, bitmapAfter}
-use Rattle.rules.proofs.Laws.Bitmap.{byteOf-small, length-packed}
+use Rattle.laws.proofs.Laws.Bitmap.{byteOf-small, length-packed}
 
 -- ---- one byte
 

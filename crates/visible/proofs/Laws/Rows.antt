@@ -15,7 +15,7 @@ use Rattle.lists.proofs.Laws.Over.{over-push}
 use Rattle.lists.proofs.Laws.Parts.{length-over, take-over}
 use Rattle.rules.specs.declared.Entry.{Entry}
 use Rattle.rules.specs.WellFormed.{endsOk}
-use Rattle.rules.proofs.Laws.Span.{EndOk, end-ok, endsOk-le}
+use Rattle.laws.proofs.Laws.Span.{EndOk, end-ok, endsOk-le}
 use Rattle.rules.specs.Top.{Top, covers, flagsBy}
 use Rattle.rules.specs.Bare.{bare}
 

@@ -10,7 +10,7 @@ use borrow.Author.Needs.{needs}
 use Rattle.rules.specs.Answers.{accepted}
 use Rattle.rules.specs.declared.Answer.{Answer}
 use Rattle.rules.proofs.Answer.{the-type}
-use Rattle.rules.proofs.Laws.Answers.{refused, refused-or}
+use Rattle.laws.proofs.Laws.Answers.{refused, refused-or}
 use Rattle.store.proofs.books.goes_on.Statement.{statement}
 use Rattle.store.proofs.books.goes_on.Tie as tie
 

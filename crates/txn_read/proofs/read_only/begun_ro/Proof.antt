@@ -6,7 +6,7 @@ use borrow.Author.Needs.{needs}
 use Rattle.lists.proofs.Laws.Places.{pushed}
 use Rattle.rules.specs.Limits.{readersMax}
 use Rattle.rules.specs.Manager.{noRo, roTxn}
-use Rattle.rules.proofs.Laws.Limits.{lastTicket-fits}
+use Rattle.laws.proofs.Laws.Limits.{lastTicket-fits}
 use Rattle.txn_find.proofs.Laws.Places.{readers-32}
 use Rattle.txn_read.proofs.read_only.begun_ro.Statement.{statement}
 use Rattle.txn_read.proofs.read_only.begun_ro.Tie as tie

@@ -3,7 +3,7 @@
 use mathlib.Core.Path.{sym, _∙_}
 use borrow.Author.Needs.{needs}
 use borrow.Author.Tests.{eq-eqb, ne-eqb}
-use Rattle.rules.proofs.Laws.Sees.{applies-later, applies-before}
+use Rattle.laws.proofs.Laws.Sees.{applies-later, applies-before}
 use Rattle.visible.specs.View.{depsIn, seesView, appliesView}
 use Rattle.visible.proofs.sees.applies.Statement.{statement}
 use Rattle.visible.proofs.sees.applies.Tie as tie

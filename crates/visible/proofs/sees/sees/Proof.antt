@@ -4,7 +4,7 @@ use mathlib.Core.Path.{sym}
 use native.Mathlib.Omega.{arith}
 use borrow.Author.Needs.{needs}
 use borrow.Author.Tests.{eq-eqb, ne-eqb}
-use Rattle.rules.proofs.Laws.Sees.{sees-own, sees-later, sees-before}
+use Rattle.laws.proofs.Laws.Sees.{sees-own, sees-later, sees-before}
 use Rattle.visible.specs.View.{depsIn, seesView}
 use Rattle.visible.proofs.sees.sees.Statement.{statement}
 use Rattle.visible.proofs.sees.sees.Tie as tie

@@ -1,0 +1,129 @@
+-- What demand 3 comes to for the readers of a store, over every history. Statements: rules/specs/Promises.antt.
+-- In order: a history is followed by its ledger; it is sound; LCE; a page; a load; a load lands whole; making new.
+-- Elsewhere: demand 3 itself (History.antt), single calls (Laws/Stays.antt).
+-- Assumes nothing.
+use mathlib.Core.Path.{_≡_, refl, sym, _∙_, ap}
+use mathlib.Core.Bool.{Bool, true, false, _&&_}
+use mathlib.Core.List.{List, [], _∷_, _++_, append-nil}
+use Prim.Native.Nat.{ℕ, _≤_, _<_}
+use lib.ListN.{length}
+use lib.Dec.{eqb}
+use borrow.Author.Tests.{eqb-true, lt-leb}
+use Rattle.lists.specs.Lists.{keepIf, allOf}
+use Rattle.lists.proofs.Laws.All.{All-every, keepIf-keepIf, keepIf-ext, keepIf-none}
+use Rattle.lists.proofs.Laws.Bools.{split, and-left, and-right, and-true, and-false}
+use Rattle.rules.specs.Limits.{partitionsMax}
+use Rattle.rules.specs.Bitmap.{bytesFor}
+use Rattle.rules.specs.Store.{Store, partitionAt}
+use Rattle.rules.specs.Calls.{scanAnswer}
+use Rattle.rules.specs.Step.{Call, create, step, run}
+use Rattle.rules.specs.Ledger.{Line, row, delete, Ledger, linesAt, concealed, showsIn, shows}
+use Rattle.rules.specs.Claim.{history, ledgerOf, isOpenIn, shownBy, wordsScanned}
+use Rattle.rules.specs.Promises.{Made, storeAfter, ledgerAfter, HistorySound, HistoryLce, spares, rowsOf, rowsBy}
+use Rattle.rules.specs.Promises.{HistoryPageUnchanged, HistoryLoadUnchanged, ledgerSees, ledgerApplies}
+use Rattle.rules.specs.Promises.{unhiddenIn, unhidden, shownLines, marked, wordsIn, HistoryLandsWhole}
+use Rattle.rules.specs.Promises.{NewClosesAll}
+use Rattle.rules.specs.declared.Reader.{Reader}
+use Rattle.rules.specs.declared.Reader.the-variants.{Rw, Ro}
+use Rattle.laws.proofs.Laws.WellFormed.{store-ok}
+use Rattle.laws.proofs.Laws.Sound.{sound-created, sound-run, sound-answers}
+use Rattle.laws.proofs.Laws.Tracks.{shownBy-tests, tracks-admits, tracks-latest}
+use Rattle.laws.proofs.Laws.Stays.{rowsOf-page, Stays, stays-still, stays-twice, stays-step}
+use Rattle.laws.proofs.Laws.Follows.{Follows}
+use Rattle.laws.proofs.History.{follows-step, follows-run, follows-agrees, follows-made}
+
+pub follows-history : (s : ℕ) (st : Store) → Made s st → (calls : List Call)
+    → Follows (storeAfter s st calls) (ledgerAfter s st calls)
+follows-history s st h calls = follows-run calls (follows-made st s h)
+
+pub history-sound : HistorySound
+history-sound s st h calls = let ok = sound-run calls (step (create s) st .store) (sound-created s st h) in
+    (store-ok (storeAfter s st calls) ok, λ c. sound-answers c (storeAfter s st calls) ok)
+
+pub history-lce : HistoryLce
+history-lce s st h calls = tracks-latest (follows-history s st h calls .tracks)
+
+-- ---- a reader that no call closes is shown what it was shown and its own new rows
+
+stays-run : (r : Reader) (calls : List Call) {st : Store} {g : Ledger} → Follows st g → isOpenIn r g ≡ true
+    → allOf (spares r) calls ≡ true → Stays r g (ledgerOf (history calls st) g) (λ p. rowsBy r p calls st)
+unfolding history ledgerOf
+stays-run r [] {st} {g} F o h = stays-still r g o
+stays-run r (c ∷ cs) {st} {g} F o h =
+    let S = stays-step F r o c (and-left (spares r c) (allOf (spares r) cs) h) in
+    stays-twice r g _ _ (λ p. rowsOf r p c (step c st .answer)) (λ p. rowsBy r p cs (step c st .store)) S
+    (stays-run r cs (follows-step c F) (S .opened) (and-right (spares r c) (allOf (spares r) cs) h))
+
+-- what scans show grows by the same rows
+scans-run : (r : Reader) (calls : List Call) {st : Store} {g : Ledger} → Follows st g → isOpenIn r g ≡ true
+    → allOf (spares r) calls ≡ true → (p : ℕ) → p < partitionsMax → (lent : List ℕ)
+    → bytesFor (partitionAt p st .rows) ≤ length lent → bytesFor (partitionAt p (run calls st) .rows) ≤ length lent
+    → wordsScanned r p lent (run calls st) ≡ wordsScanned r p lent st ++ rowsBy r p calls st
+scans-run r calls {st} F o h p k lent n n′ = let S = stays-run r calls F o h in
+    follows-agrees (follows-run calls F) r p k lent n′ .shows (S .opened)
+    ∙ (S .shown p k ∙ ap (λ ws. ws ++ rowsBy r p calls st) (sym (follows-agrees F r p k lent n .shows o)))
+
+rowsBy-page : (t p : ℕ) (calls : List Call) (st : Store) → rowsBy (Ro t) p calls st ≡ []
+rowsBy-page t p [] st = refl
+rowsBy-page t p (c ∷ cs) st = rw (rowsOf-page t p c (step c st .answer)) (rowsBy-page t p cs (step c st .store))
+
+pub history-page-unchanged : HistoryPageUnchanged
+history-page-unchanged s st h before t o calls k =
+    let F = follows-history s st h before in let at = storeAfter s st before in let g = ledgerAfter s st before in
+    let S = stays-run (Ro t) calls F o k in
+    record {
+      opened = S .opened;
+      shown = λ p l. S .shown p l ∙ rw (rowsBy-page t p calls at) (append-nil (shownBy (Ro t) p g));
+      scans = λ p l lent n n′. scans-run (Ro t) calls F o k p l lent n n′
+        ∙ rw (rowsBy-page t p calls at) (append-nil (wordsScanned (Ro t) p lent at)) }
+
+pub history-load-unchanged : HistoryLoadUnchanged
+history-load-unchanged s st h before i o calls k =
+    let F = follows-history s st h before in let S = stays-run (Rw i) calls F o k in
+    record { opened = S .opened; shown = S .shown; scans = scans-run (Rw i) calls F o k }
+
+-- ---- a load lands whole
+
+-- the words of the rows that are not hidden and whose mark passes are those that shows has
+words-unhidden : (s a : ℕ → Bool) (all ls : List Line)
+    → wordsIn (keepIf (λ x. s (x .0)) (unhiddenIn a all ls)) ≡ showsIn s a all ls
+unfolding showsIn
+words-unhidden s a all [] = refl
+words-unhidden s a all (row j w ∷ ls) = let ih = words-unhidden s a all ls in split (concealed a all ls j)
+    (λ c. rw (c, and-false (s j)) ih)
+    (λ n. rw (n, and-true (s j)) (split (s j) (λ t. rw (t, ih)) (λ f. rw f ih)))
+words-unhidden s a all (delete k ∷ ls) = words-unhidden s a all ls
+
+words-shown : (r : Reader) (p : ℕ) (g : Ledger) → wordsIn (shownLines r p g) ≡ shownBy r p g
+unfolding shows
+words-shown r p g = words-unhidden (ledgerSees r g) (ledgerApplies r g) (linesAt p g) (linesAt p g)
+    ∙ sym (shownBy-tests r p g)
+
+-- of the rows whose mark passes s, those marked j
+module _ (s : ℕ → Bool) (j : ℕ) (xs : List (ℕ × ℕ)) where
+  marked-seen : s j ≡ true → marked j (keepIf (λ x. s (x .0)) xs) ≡ marked j xs
+  marked-seen t = keepIf-keepIf (λ x. eqb (x .0) j) (λ x. s (x .0)) xs ∙ keepIf-ext _ _ xs (All-every _
+    (λ (x : ℕ × ℕ). split (eqb (x .0) j) (λ e. rw (e, eqb-true (x .0) j e) (rw t)) (λ n. rw n (and-false (s (x .0)))))
+    xs)
+
+  marked-unseen : s j ≡ false → marked j (keepIf (λ x. s (x .0)) xs) ≡ []
+  marked-unseen f = keepIf-keepIf (λ x. eqb (x .0) j) (λ x. s (x .0)) xs ∙ keepIf-none _ xs (All-every _
+    (λ (x : ℕ × ℕ). split (eqb (x .0) j) (λ e. rw (eqb-true (x .0) j e, f)) (λ n. rw n (and-false (s (x .0))))) xs)
+
+pub history-lands-whole : HistoryLandsWhole
+history-lands-whole s st h calls r o =
+    let F = follows-history s st h calls in let g = ledgerAfter s st calls in
+    record {
+      shown = λ p. words-shown r p g;
+      scans = λ p l lent n. follows-agrees F r p l lent n .shows o ∙ sym (words-shown r p g);
+      whole = λ j t p. marked-seen (ledgerSees r g) j (unhidden r p g) t;
+      nothing = λ j f p. marked-unseen (ledgerSees r g) j (unhidden r p g) f }
+
+-- ---- making new closes all
+
+pub new-closes-all : NewClosesAll
+unfolding step scanAnswer
+new-closes-all s st h (Rw i) p l lent = let F = follows-made st s h in
+    rw (store-ok _ (F .ok), lt-leb partitionsMax p l, tracks-admits (F .tracks) (Rw i))
+new-closes-all s st h (Ro t) p l lent = let F = follows-made st s h in
+    rw (store-ok _ (F .ok), lt-leb partitionsMax p l, tracks-admits (F .tracks) (Ro t))
