@@ -5,13 +5,14 @@ use mathlib.Core.Bool.{Bool, true, false, cond}
 use mathlib.Core.List.{List, [], _∷_}
 use Prim.Native.Nat.{ℕ, suc, _+_, _-_, _*_, _≤_, _<_, min}
 use native.Mathlib.Omega.{arith}
-use lib.ListN.{length, drop, getD, length-take}
+use lib.ListN.{length, take, drop, getD, length-take}
 use lib.Seq.{getD-take}
 use Rattle.lists.specs.Lists.{anyOf, firstOf, part}
 use Rattle.lists.proofs.Laws.Bools.{split, or-false-left, or-false-right}
 use Rattle.lists.proofs.Laws.Branches.{said}
 use Rattle.rules.specs.Limits.{writersMax, readersMax, depsMax}
 use Rattle.rules.specs.Manager.{noWriter, noRw, noRo, recordsOf, view, views, writersOf, readersOf, opens, hasTicket}
+use Rattle.rules.specs.declared.RoTxns.{RoTxns}
 use Rattle.rules.specs.declared.RwTxn.{RwTxn}
 use Rattle.rules.specs.Manager.{Manager}
 use Rattle.laws.proofs.Laws.Views.{writers-length, views-at}
@@ -72,7 +73,16 @@ find-views i ds [] k = refl
 find-views i ds (t ∷ ts) k = let ih = find-views i (drop depsMax ds) ts (k + 1) in
     ap (λ f. cond (opensAt i t) (At k) f) ih
 
--- the same of the manager's records, where r is what the search answered
+-- the same of records alone, where r is what the search answered
+pub reader-stands-in : (ps : RoTxns) (i : ℕ) {r : Found} {j : ℕ} → length (ps .at) ≡ readersMax → r ≡ readerAt i ps
+    → r ≡ At j → Stands (hasTicket i) (take (ps .count) (ps .at)) (ps .count) readersMax (getD (ps .at) j noRo) j
+unfolding readerAt
+reader-stands-in ps i {j = j} len a e = let xs = take (ps .count) (ps .at) in
+    let w = length-take (ps .count) (ps .at) in
+    stands (hasTicket i) xs (ps .count) readersMax noRo _ j (w ∙ ap (λ n. min (ps .count) n) len) (said a e)
+      (λ h. getD-take (ps .count) (ps .at) j noRo (omega arith))
+
+-- the same of the manager's records
 module _ (m : Manager) (i : ℕ) {r : Found} where
   pub writer-found : r ≡ writerAt i (m .writers) → r ≡ findFrom (opens i) (writersOf m) 0
   unfolding writerAt
@@ -100,8 +110,4 @@ module _ (m : Manager) (i : ℕ) {r : Found} where
 
     pub reader-stands : r ≡ readerAt i (m .readers) → r ≡ At j
       → Stands (hasTicket i) (readersOf m) (m .readers .count) readersMax (getD (m .readers .at) j noRo) j
-    unfolding readerAt
-    reader-stands a e = let w = length-take (m .readers .count) (m .readers .at) in
-      stands (hasTicket i) (readersOf m) (m .readers .count) readersMax noRo _ j
-        (w ∙ ap (λ n. min (m .readers .count) n) (z .readers)) (said a e)
-        (λ h. getD-take (m .readers .count) (m .readers .at) j noRo (omega arith))
+    reader-stands a e = reader-stands-in (m .readers) i (z .readers) a e
