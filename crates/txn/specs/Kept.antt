@@ -5,14 +5,9 @@ use Rattle.rules.specs.Answers.{accepted}
 use Rattle.rules.specs.Manager.{Manager, managerIn}
 use Rattle.rules.specs.Store.{withManagerIn}
 use Rattle.rules.specs.declared.Answer.{Answer}
-use Rattle.rules.specs.declared.Answer.the-variants.{Refused}
-use Rattle.rules.specs.declared.Refusal.{Refusal}
 use Rattle.rules.specs.declared.Kept.{Kept}
 use Rattle.rules.specs.declared.State.{State}
 
 -- next is the manager that an accepted call leaves
 abbrev pub keptOf : Answer → Manager → State → Kept
 keptOf a next s = record { state = withManagerIn (cond (accepted a) next (managerIn s)) s; answer = a }
-
-abbrev pub refusedWith : Refusal → State → Kept
-refusedWith why s = record { state = s; answer = Refused why }

@@ -1,17 +1,23 @@
 -- Closing and settling as one pass over rising records sees them. 01 "The books", Commit, roll back.
 -- The rules' own wording is settledLce (rules/specs/Close.antt); proofs/Laws/Settle.antt shows that the two
 -- agree.
--- In order: lead, runLce, the books, the transaction closed, the order of the epochs.
+-- In order: lead, runLce, the books, the transaction closed, the search for it.
 -- Assumes nothing.
 use mathlib.Core.Bool.{Bool, cond}
 use mathlib.Core.List.{List, [], _∷_}
 use Prim.Native.Nat.{ℕ, suc}
-use lib.ListN.{set}
-use Rattle.rules.specs.Manager.{Writer, isOpen}
+use lib.ListN.{drop, set}
+use Rattle.rules.specs.Manager.{Writer, isOpen, withLce}
 use Rattle.rules.specs.Close.{waitingTxn, committedManager, rolledBackManager}
+use Rattle.rules.specs.declared.Answer.the-variants.{Closed, Refused}
+use Rattle.rules.specs.declared.Refusal.the-variants.{NotOpen}
 use Rattle.rules.specs.declared.Clock.{Clock}
+use Rattle.rules.specs.declared.RwTxns.{RwTxns}
 use Rattle.rules.specs.Manager.{Manager}
-use Rattle.txn.specs.Records.{cut, writersWith}
+use Rattle.txn.specs.Records.{cut, writersWith, tableWith}
+use Rattle.txn_find.specs.declared.Found.{Found}
+use Rattle.txn_find.specs.declared.Found.the-variants.{At, Nothing}
+use Rattle.txn_close.specs.declared.Ended.{Ended}
 use Rattle.txn_close.specs.declared.close.Books.{Books}
 use Rattle.txn_close.specs.declared.close.Reached.{Reached}
 
@@ -36,6 +42,25 @@ booksWith c ws = record { clock = c; writers = writersWith ws }
 
 abbrev pub closedTxns : Bool → ℕ → ℕ → List Writer → List Writer
 closedTxns waits j i ws = cond waits (set ws j (waitingTxn i)) (cut j (suc j) ws)
+
+-- ---- the search for it, then closed and settled
+
+-- LCE is settled over ws, and what it has reached is gone
+abbrev pub settledBooks : Clock → List Writer → Books
+settledBooks c ws = booksWith (withLce (runLce (c .lce) ws) c) (drop (lead ws) ws)
+
+abbrev pub endedWith : Books → Ended
+endedWith b = record { answer = Closed (b .clock .lce); clock = b .clock; writers = b .writers }
+
+-- by what the search found among ws, which the records ts show
+abbrev pub endedBy : Bool → ℕ → Clock → RwTxns → List Writer → Found → Ended
+endedBy waits i c ts ws (At j) = endedWith (settledBooks c (closedTxns waits j i ws))
+endedBy waits i c ts ws Nothing = record { answer = Refused NotOpen; clock = c; writers = ts }
+
+-- the table of deps then
+abbrev pub tableBy : Bool → ℕ → List Writer → List ℕ → Found → List ℕ
+tableBy waits i ws ds (At j) = let vs = closedTxns waits j i ws in tableWith (drop (lead vs) vs)
+tableBy waits i ws ds Nothing = ds
 
 -- the rules' own wording, LCE settled
 abbrev pub closedManager : Bool → ℕ → Manager → Manager

@@ -3,11 +3,13 @@ mod close;
 
 use close::Books;
 use rules::Answer;
+use rules::Clock;
 use rules::Kept;
 use rules::Refusal;
+use rules::RwTxns;
 use rules::State;
+use rules::limits::DEPS_ALL;
 use txn::parts_sound;
-use txn::refused;
 use txn_find::Found;
 use txn_find::find_writer;
 ghost use mathlib.Core.Bool.{_&&_};
@@ -17,35 +19,42 @@ ghost use Rattle.rules.specs.WellFormed.{managerOk};
 ghost use Rattle.rules.specs.Calls.{closeAnswer};
 ghost use Rattle.txn.specs.Kept.{keptOf};
 ghost use Rattle.rules.specs.Manager.{managerIn};
-ghost use Rattle.txn_close.specs.Close.{closedManager};
+ghost use Rattle.txn.specs.Records.{viewed, Tidy};
+ghost use Rattle.txn_find.specs.Find.{writerAt};
+ghost use Rattle.txn_close.specs.Close.{endedBy, tableBy};
 
-// The transaction of epoch i is closed, and waits, or leaves no record; then LCE is settled.
-fn close_txn(state: State, rest: bool, i: u64, waits: bool) -> Kept
-    ensures { λ r. ⌜ (let m = managerIn state in let next = closedManager waits i m in
-        r ≡ keptOf (closeAnswer i (rest && managerOk m) m next) next state) ⌝ }
+// What closing a transaction answers, and what it changes beside the table of deps, which is lent.
+struct Ended {
+    answer: Answer,
+    clock: Clock,
+    writers: RwTxns,
+}
+
+// The transaction of epoch i is closed, and waits, or leaves no record; then LCE is settled. Refusal: 2.
+fn close_at(clock: Clock, ts: RwTxns, deps: &mut [u64; DEPS_ALL], i: u64, waits: bool) -> Ended
+    requires { ⌜ Tidy ts (now deps) ⌝ }
+    ensures { λ r. ⌜ (let ws = viewed ts (now (deps .entry)) in let f = writerAt i ts in
+        (r ≡ endedBy waits i clock ts ws f) × (now (deps .exit) ≡ tableBy waits i ws (now (deps .entry)) f)) ⌝ }
 {
-    let mut s = state;
-    if !parts_sound(rest, s.clock, s.writers, &s.deps, s.readers) {
-        return refused(s, Refusal::Unsound);
-    }
-    let Found::At(j) = find_writer(s.writers, i) else {
-        return refused(s, Refusal::NotOpen);
+    let Found::At(j) = find_writer(ts, i) else {
+        return Ended {
+            answer: Answer::Refused(Refusal::NotOpen),
+            clock: clock,
+            writers: ts,
+        };
     };
-    let clock = s.clock;
-    let writers = s.writers;
     let books = Books {
         clock: clock,
-        writers: writers,
+        writers: ts,
     };
-    let closed = books.close(&mut s.deps, j, i, waits);
-    let next = closed.settle(&mut s.deps);
+    let closed = books.close(deps, j, i, waits);
+    let next = closed.settle(deps);
     let c = next.clock;
-    let ts = next.writers;
-    s.clock = c;
-    s.writers = ts;
-    Kept {
-        state: s,
+    let left = next.writers;
+    Ended {
         answer: Answer::Closed { lce: c.lce },
+        clock: c,
+        writers: left,
     }
 }
 
@@ -54,7 +63,20 @@ pub fn commit(state: State, rest: bool, i: u64) -> Kept
     ensures { λ r. ⌜ (let m = managerIn state in let next = committedManager i m in
         r ≡ keptOf (closeAnswer i (rest && managerOk m) m next) next state) ⌝ }
 {
-    close_txn(state, rest, i, true)
+    let mut s = state;
+    let mut answer = Answer::Refused(Refusal::Unsound);
+    if parts_sound(rest, s.clock, s.writers, &s.deps, s.readers) {
+        let e = close_at(s.clock, s.writers, &mut s.deps, i, true);
+        let clock = e.clock;
+        let writers = e.writers;
+        s.clock = clock;
+        s.writers = writers;
+        answer = e.answer;
+    }
+    Kept {
+        state: s,
+        answer: answer,
+    }
 }
 
 // Roll back, but for the lots: the transaction of epoch i leaves no record. Refusals, in this order: 5, 2.
@@ -62,5 +84,18 @@ pub fn roll_back(state: State, rest: bool, i: u64) -> Kept
     ensures { λ r. ⌜ (let m = managerIn state in let next = rolledBackManager i m in
         r ≡ keptOf (closeAnswer i (rest && managerOk m) m next) next state) ⌝ }
 {
-    close_txn(state, rest, i, false)
+    let mut s = state;
+    let mut answer = Answer::Refused(Refusal::Unsound);
+    if parts_sound(rest, s.clock, s.writers, &s.deps, s.readers) {
+        let e = close_at(s.clock, s.writers, &mut s.deps, i, false);
+        let clock = e.clock;
+        let writers = e.writers;
+        s.clock = clock;
+        s.writers = writers;
+        answer = e.answer;
+    }
+    Kept {
+        state: s,
+        answer: answer,
+    }
 }

@@ -1,78 +1,80 @@
 -- Closing at the place that was found, then settling, is what the rules say of the epoch.
 -- Definitions: specs/Close.antt; rules/specs/Close.antt.
--- In order: what a close hands on, the transactions once closed, the close of a transaction that was found.
+-- In order: one transaction closed, settled, the transactions of a manager, the books.
 -- Assumes nothing.
-use mathlib.Core.Path.{_≡_, sym, _∙_}
-use mathlib.Core.Bool.{Bool, true, false, not, _&&_, cond}
+use mathlib.Core.Path.{_≡_, refl, sym, ap, _∙_}
+use mathlib.Core.Bool.{Bool, true, false, _&&_, cond}
 use mathlib.Core.List.{List}
-use Prim.Native.Nat.{ℕ, _≤_, _<_}
+use Prim.Native.Nat.{ℕ, suc, _≤_}
 use native.Mathlib.Omega.{arith}
-use mir.Val.{Val}
-use denote.Laws.{Is}
-use denote.Struct.Declared.{row}
-use lib.ListN.{length, drop, length-map}
-use Rattle.lists.proofs.Laws.All.{All}
+use lib.ListN.{length, take, drop, length-set, length-append, length-take, length-drop}
+use Rattle.lists.proofs.Laws.All.{All, All-append, All-take, All-drop, All-set}
 use Rattle.lists.proofs.Laws.Bools.{and-right}
 use Rattle.lists.proofs.Laws.Branches.{said}
-use Rattle.lists.proofs.Laws.Filter.{length-keepIf}
-use Rattle.rules.specs.Limits.{writersMax}
-use Rattle.rules.specs.Manager.{Writer, noWriter, managerWith, writersOf, withLce, opens}
-use Rattle.rules.specs.Close.{waitingTxn, committedTxns, droppedTxns, settled, committedManager}
-use Rattle.rules.specs.Close.{rolledBackManager}
+use Rattle.rules.specs.Manager.{Manager, Writer, noWriter, managerWith, managerIn, writersOf, withLce, opens}
+use Rattle.rules.specs.Close.{waitingTxn, committedTxns, droppedTxns, committedManager, rolledBackManager}
 use Rattle.rules.specs.Calls.{closeAnswer}
+use Rattle.rules.specs.Store.{withManagerIn}
 use Rattle.rules.specs.WellFormed.{managerOk}
 use Rattle.rules.specs.declared.Answer.the-variants.{Closed}
-use Rattle.rules.specs.Manager.{Manager, managerIn}
-use Rattle.rules.specs.Store.{withManagerIn}
+use Rattle.rules.specs.declared.Clock.{Clock}
+use Rattle.rules.specs.declared.RwTxns.{RwTxns}
 use Rattle.rules.specs.declared.Kept.{Kept}
 use Rattle.rules.specs.declared.State.{State}
-use Rattle.rules.proofs.State as state-type
 use Rattle.laws.proofs.Laws.Manager.{WriterFacts, manager-facts, opens-epoch}
-use Rattle.laws.proofs.Laws.Close.{Unsettled, committed-unsettled, dropped-unsettled}
-use Rattle.laws.proofs.Laws.Views.{Fits, writers-length}
+use Rattle.laws.proofs.Laws.Close.{committed-unsettled, dropped-unsettled}
+use Rattle.laws.proofs.Laws.Views.{Fits}
 use Rattle.txn.specs.Kept.{keptOf}
 use Rattle.txn.specs.Records.{writersWith, tableWith, viewed, Tidy}
-use Rattle.txn.proofs.Laws.Records.{viewed-with, tidy-with, writers-tidy}
+use Rattle.txn.proofs.Laws.Records.{viewed-with, viewed-length, viewed-fit, tidy-with}
 use Rattle.txn.proofs.Laws.Cut.{drop-one, change-one}
 use Rattle.txn_find.specs.Find.{findFrom, writerAt}
 use Rattle.txn_find.specs.declared.Found.{Found}
-use Rattle.txn_find.specs.declared.Found.the-variants.{At}
-use Rattle.txn_find.proofs.Laws.Find.{writer-found, writer-stands}
-use Rattle.txn_find.proofs.Laws.Places.{sized}
-use Rattle.txn_close.specs.Close.{lead, runLce, booksWith, closedTxns, closedManager}
+use Rattle.txn_find.specs.declared.Found.the-variants.{At, Nothing}
+use Rattle.txn_find.proofs.Laws.Find.{writer-found, writer-stands, writer-none}
+use Rattle.txn_find.proofs.Laws.Places.{Sized}
+use Rattle.txn_close.specs.Close.{lead, runLce, booksWith, closedTxns, settledBooks, endedBy, tableBy}
+use Rattle.txn_close.specs.Close.{closedManager}
+use Rattle.txn_close.specs.declared.Ended.{Ended}
 use Rattle.txn_close.specs.declared.close.Books.{Books}
 use Rattle.txn_close.proofs.Laws.Settle.{settled-runs}
 
--- ---- what a close hands on: ws are the transactions of m once one is closed, next the manager once LCE is settled
+-- ---- one transaction closed: the others keep their rows
 
-pub record Closes (m : Manager) (ws : List Writer) (next : Manager) : Type 0 where
-  pub fits : All Fits ws
-  pub tidy : Tidy (writersWith ws) (tableWith ws)
-  pub is : let left = drop (lead ws) ws in
-    managerWith (withLce (runLce (m .clock .lce) ws) (m .clock)) (writersWith left) (tableWith left) (m .readers) ≡ next
+closed-fit : (waits : Bool) (j i : ℕ) (ws : List Writer) → All Fits ws → All Fits (closedTxns waits j i ws)
+closed-fit true j i ws a = All-set Fits ws j (waitingTxn i) a (omega arith)
+closed-fit false j i ws a =
+    All-append Fits (take j ws) (drop (suc j) ws) (All-take Fits j ws a) (All-drop Fits (suc j) ws a)
 
-closes : (m : Manager) (ws : List Writer) → length ws ≤ writersMax → Unsettled (m .clock) ws
-    → Closes m ws (settled ws m)
-closes m ws few u = record {
-  fits = u .fits; tidy = tidy-with ws few (u .fits); is = sym (settled-runs m ws (u .rising)) }
+closed-few : (waits : Bool) (j i : ℕ) (ws : List Writer) → length (closedTxns waits j i ws) ≤ length ws
+closed-few true j i ws = rw (length-set ws j (waitingTxn i)) (omega arith)
+closed-few false j i ws = let t = length-take j ws in let d = length-drop (suc j) ws in
+    rw (length-append (take j ws) (drop (suc j) ws)) (omega arith)
+
+module _ {ts : RwTxns} {ds : List ℕ} (T : Tidy ts ds) (waits : Bool) (j i : ℕ) where
+  pub closed-fits : All Fits (closedTxns waits j i (viewed ts ds))
+  closed-fits = closed-fit waits j i (viewed ts ds) (viewed-fit T)
+
+  pub closed-tidy : let ws = closedTxns waits j i (viewed ts ds) in Tidy (writersWith ws) (tableWith ws)
+  closed-tidy = let n = viewed-length T in let r = T .room in let f = closed-few waits j i (viewed ts ds) in
+    tidy-with (closedTxns waits j i (viewed ts ds)) (omega arith) closed-fits
 
 -- closed and ds are the books and the table once closed, q and es once settled
-pub settled-is : {m : Manager} {ws : List Writer} {next : Manager} → Closes m ws next
-    → (closed q : Books) (ds es : List ℕ) → closed ≡ booksWith (m .clock) ws → ds ≡ tableWith ws
+pub settled-are : (c : Clock) (ws : List Writer) → All Fits ws → (closed q : Books) (ds es : List ℕ)
+    → closed ≡ booksWith c ws → ds ≡ tableWith ws
     → (let vs = viewed (closed .writers) ds in
       (q ≡ booksWith (withLce (runLce (closed .clock .lce) vs) (closed .clock)) (drop (lead vs) vs))
       × (es ≡ tableWith (drop (lead vs) vs)))
-    → managerWith (q .clock) (q .writers) es (m .readers) ≡ next
-settled-is {m} {ws} C closed q ds es a b e =
-    let v = (λ i. viewed (a i .writers) (b i)) ∙ viewed-with ws (C .fits) in
-    let p = e .0 ∙ (λ i. booksWith (withLce (runLce (a i .clock .lce) (v i)) (a i .clock)) (drop (lead (v i)) (v i))) in
-    let t = e .1 ∙ (λ i. tableWith (drop (lead (v i)) (v i))) in
-    (λ i. managerWith (p i .clock) (p i .writers) (t i) (m .readers)) ∙ C .is
+    → (q ≡ settledBooks c ws) × (es ≡ tableWith (drop (lead ws) ws))
+settled-are c ws fits closed q ds es a b e =
+    let v = (λ i. viewed (a i .writers) (b i)) ∙ viewed-with ws fits in
+    (e .0 ∙ (λ i. booksWith (withLce (runLce (a i .clock .lce) (v i)) (a i .clock)) (drop (lead (v i)) (v i))),
+      e .1 ∙ (λ i. tableWith (drop (lead (v i)) (v i))))
 
--- ---- the transactions, with the one found at place j closed
+-- ---- the transactions of a manager, with the one found at place j closed, are settled as the rules say
 
 module _ (m : Manager) (i : ℕ) {j : ℕ} (f : WriterFacts (m .clock) (writersOf m))
-    (room : m .writers .count ≤ writersMax) (at : findFrom (opens i) (writersOf m) 0 ≡ At j) where
+    (at : findFrom (opens i) (writersOf m) 0 ≡ At j) where
   closed-is : (waits : Bool) → closedTxns waits j i (writersOf m)
     ≡ cond waits (committedTxns i (writersOf m)) (droppedTxns i (writersOf m))
   unfolding committedTxns droppedTxns
@@ -81,37 +83,39 @@ module _ (m : Manager) (i : ℕ) {j : ℕ} (f : WriterFacts (m .clock) (writersO
   closed-is false = sym (drop-one (opens i) (λ (t : Writer). t .epoch) i (λ t o. opens-epoch i t o) (m .clock .ec)
     noWriter (m .clock .lce) (writersOf m) j (f .rising) at)
 
-  closed-closes : (waits : Bool) → Closes m (closedTxns waits j i (writersOf m)) (closedManager waits i m)
+  closed-settled : (waits : Bool) → let ws = closedTxns waits j i (writersOf m) in let b = settledBooks (m .clock) ws in
+    managerWith (b .clock) (b .writers) (tableWith (drop (lead ws) ws)) (m .readers) ≡ closedManager waits i m
   unfolding committedManager rolledBackManager committedTxns droppedTxns
-  closed-closes true = let ws = writersOf m in let l = writers-length m in
-    rw (closed-is true) (closes m (committedTxns i ws)
-      (rw (length-map ws (λ (t : Writer). cond (opens i t) (waitingTxn i) t)) (omega arith))
-      (committed-unsettled (m .clock) ws f i))
-  closed-closes false = let ws = writersOf m in let l = writers-length m in
-    let k = length-keepIf (λ (t : Writer). not (opens i t)) ws in
-    rw (closed-is false) (closes m (droppedTxns i ws) (omega arith) (dropped-unsettled (m .clock) ws f i))
+  closed-settled true = let ws = writersOf m in
+    rw (closed-is true) (sym (settled-runs m (committedTxns i ws) (committed-unsettled (m .clock) ws f i .rising)))
+  closed-settled false = let ws = writersOf m in
+    rw (closed-is false) (sym (settled-runs m (droppedTxns i ws) (dropped-unsettled (m .clock) ws f i .rising)))
 
--- ---- the transaction of epoch i was found at place j of a sound manager
+-- ---- closing a transaction on the records and their table is closing it on the books
 
--- closed, with this manager after it
-abbrev pub closedKept : State → Manager → Kept
-closedKept s next = record { state = withManagerIn next s; answer = Closed (next .clock .lce) }
+abbrev endedIn : State → Ended → List ℕ → Kept
+endedIn s e ds = record {
+  state = withManagerIn (managerWith (e .clock) (e .writers) ds (s .readers)) s; answer = e .answer }
 
-pub record Closing (s : State) (rest : Bool) (i j : ℕ) : Type 0 where
-  pub tidy : Tidy (s .writers) (s .deps)
-  pub place : j < s .writers .count
-  pub closes : (waits : Bool) → let m = managerIn s in
-    Closes m (closedTxns waits j i (writersOf m)) (closedManager waits i m)
-  pub answers : (next : Manager) → let m = managerIn s in
-    closedKept s next ≡ keptOf (closeAnswer i (rest && managerOk m) m next) next s
+module _ (s : State) (z : Sized (managerIn s)) (rest : Bool) (yes : rest && managerOk (managerIn s) ≡ true) (i : ℕ)
+    (waits : Bool) where
+  abbrev m : Manager
+  m = managerIn s
 
-pub closing : (s : State) (rest : Bool) {vs : List Val} → Is (row state-type.the-type) s vs
-    → (i : ℕ) {j : ℕ} {r : Found} → rest && managerOk (managerIn s) ≡ true
-    → r ≡ writerAt i (s .writers) → r ≡ At j → Closing s rest i j
-unfolding closeAnswer
-closing s rest g i {j} sound a e =
-    let m = managerIn s in let z = sized s g in let ok = and-right rest (managerOk m) sound in
-    let f = manager-facts m ok in let w = writer-stands m i z a e in let b = w .below in record {
-      tidy = writers-tidy m ok z; place = omega arith;
-      closes = closed-closes m i (f .writers) (f .writers-room) (said (writer-found m i a) e);
-      answers = λ next. rw (sound, w .any) }
+  abbrev next : Manager
+  next = closedManager waits i m
+
+  by-found : (r : Found) → r ≡ writerAt i (s .writers)
+    → endedIn s (endedBy waits i (s .clock) (s .writers) (writersOf m) r) (tableBy waits i (writersOf m) (s .deps) r)
+      ≡ keptOf (closeAnswer i (rest && managerOk m) m next) next s
+  unfolding closeAnswer
+  by-found (At j) a = let ok = and-right rest (managerOk m) yes in
+    let left : Manager → Kept = λ n. record { state = withManagerIn n s; answer = Closed (n .clock .lce) } in
+    ap left (closed-settled m i (manager-facts m ok .writers) (said (writer-found m i a) refl) waits)
+      ∙ rw (yes, writer-stands m i z a refl .any)
+  by-found Nothing a = rw (yes, writer-none m i a refl .any)
+
+  pub ended-is : let r = writerAt i (s .writers) in
+    endedIn s (endedBy waits i (s .clock) (s .writers) (writersOf m) r) (tableBy waits i (writersOf m) (s .deps) r)
+      ≡ keptOf (closeAnswer i (rest && managerOk m) m next) next s
+  ended-is = by-found (writerAt i (s .writers)) refl

@@ -14,6 +14,7 @@ use Rattle.rules.specs.Limits.{writersMax, readersMax, depsMax}
 use Rattle.rules.specs.Manager.{noWriter, noRw, noRo, recordsOf, view, views, writersOf, readersOf, opens, hasTicket}
 use Rattle.rules.specs.declared.RoTxns.{RoTxns}
 use Rattle.rules.specs.declared.RwTxn.{RwTxn}
+use Rattle.rules.specs.declared.RwTxns.{RwTxns}
 use Rattle.rules.specs.Manager.{Manager}
 use Rattle.laws.proofs.Laws.Views.{writers-length, views-at}
 use Rattle.txn_find.specs.Find.{findFrom, opensAt, writerAt, readerAt}
@@ -81,6 +82,14 @@ reader-stands-in ps i {j = j} len a e = let xs = take (ps .count) (ps .at) in
     let w = length-take (ps .count) (ps .at) in
     stands (hasTicket i) xs (ps .count) readersMax noRo _ j (w ∙ ap (λ n. min (ps .count) n) len) (said a e)
       (λ h. getD-take (ps .count) (ps .at) j noRo (omega arith))
+
+pub writer-below : (ts : RwTxns) (i : ℕ) {r : Found} {j : ℕ} → length (ts .at) ≡ writersMax → r ≡ writerAt i ts
+    → r ≡ At j → j < min (ts .count) writersMax
+unfolding writerAt
+writer-below ts i {j = j} len a e = let xs = take (ts .count) (ts .at) in
+    let w = length-take (ts .count) (ts .at) in
+    stands (opensAt i) xs (ts .count) writersMax noRw _ j (w ∙ ap (λ n. min (ts .count) n) len) (said a e)
+      (λ h. getD-take (ts .count) (ts .at) j noRw (omega arith)) .below
 
 -- the same of the manager's records
 module _ (m : Manager) (i : ℕ) {r : Found} where
