@@ -48,6 +48,15 @@ struct Said {
     written: usize,
 }
 
+// Nothing is done, and nothing said.
+fn silent(state: State, table: Table) -> Said {
+    Said {
+        state: state,
+        table: table,
+        written: 0,
+    }
+}
+
 // The store after a call, and its answer in 01's numbers.
 struct Done {
     state: State,
@@ -70,10 +79,13 @@ fn once(state: State, table: Table, rows: &mut [u64], batch: &[u64], command: Co
     }
 }
 
-// The number of an answer, and its values.
+// The number of an answer, and its values; of a begin that is lent so many rows the number alone.
 fn print_reply(letter: u8, reply: ReplyWords, out: &mut [u8]) -> usize {
     let told = reply.values;
     let values = [told[0], told[1]];
+    if letter == b'g' {
+        return print_line(letter, reply.number, &values[0..0], out);
+    }
     let count = in_use(reply.count, VALUES_MAX);
     print_line(letter, reply.number, &values[0..count], out)
 }
@@ -115,58 +127,8 @@ fn repeat(
     }
 }
 
-// Made new, or begun with so many rows lent: the number alone.
-fn number_only(
-    state: State,
-    table: Table,
-    rows: &mut [u64],
-    command: Command,
-    letter: u8,
-    out: &mut [u8],
-) -> Said {
-    let none = [0u64; 0];
-    let done = once(state, table, rows, &none, command);
-    let size = print_line(letter, done.reply.number, &none, out);
-    let s = done.state;
-    let t = done.table;
-    Said {
-        state: s,
-        table: t,
-        written: size,
-    }
-}
-
-// A scan by a load (who is 0) or a page, lent the first n of eight stale bytes: the counts and all eight.
-fn scan(
-    state: State,
-    table: Table,
-    rows: &mut [u64],
-    who: u64,
-    id: u64,
-    lot: u64,
-    n: usize,
-    out: &mut [u8],
-) -> Said {
-    if BYTES < n {
-        return Said {
-            state: state,
-            table: table,
-            written: 0,
-        };
-    }
-    let none = [0u64; 0];
-    let mut b = [STALE; BYTES];
-    let mut reader = Reader::Ro(id);
-    if who == 0 {
-        reader = Reader::Rw(id);
-    }
-    let command = Command::Scan {
-        reader: reader,
-        partition: lot,
-    };
-    let done = dispatch::turn(state, table, rows, &none, &mut b[0..n], command);
-    let answer = done.answer;
-    let reply = reply_of(answer);
+// The counts of a scan, and all eight bytes.
+fn print_scan(reply: ReplyWords, b: [u8; BYTES], out: &mut [u8]) -> usize {
     let told = reply.values;
     let values = [
         told[0],
@@ -180,7 +142,39 @@ fn scan(
         wide(b[6]),
         wide(b[7]),
     ];
-    let size = print_line(b't', reply.number, &values, out);
+    print_line(b't', reply.number, &values, out)
+}
+
+// A load (who is 0) or a page.
+fn reader_of(who: u64, id: u64) -> Reader {
+    if who == 0 {
+        return Reader::Rw(id);
+    }
+    Reader::Ro(id)
+}
+
+// A scan that is lent the first n of eight stale bytes.
+fn scan(
+    state: State,
+    table: Table,
+    rows: &mut [u64],
+    reader: Reader,
+    lot: u64,
+    n: usize,
+    out: &mut [u8],
+) -> Said {
+    if BYTES < n {
+        return silent(state, table);
+    }
+    let none = [0u64; 0];
+    let mut b = [STALE; BYTES];
+    let command = Command::Scan {
+        reader: reader,
+        partition: lot,
+    };
+    let done = dispatch::turn(state, table, rows, &none, &mut b[0..n], command);
+    let answer = done.answer;
+    let size = print_scan(reply_of(answer), b, out);
     let s = done.state;
     let t = done.table;
     Said {
@@ -196,6 +190,14 @@ fn print_part(part: &[u64], out: &mut [u8]) -> usize {
     print_line(b'r', n as u64, part, out)
 }
 
+// Whether a purge rewrote, to standard output.
+fn send_purged(reply: ReplyWords, out: &mut [u8]) {
+    let told = reply.values;
+    let value = [told[0]];
+    let size = print_line(b'p', reply.number, &value, out);
+    send(out, size);
+}
+
 // A purge: whether it rewrote, and on a line of its own the rows in force.
 fn purge(state: State, table: Table, rows: &mut [u64], lot: u64, out: &mut [u8]) -> Said {
     let none = [0u64; 0];
@@ -203,11 +205,7 @@ fn purge(state: State, table: Table, rows: &mut [u64], lot: u64, out: &mut [u8])
     let command = Command::Purge { partition: lot };
     let done = dispatch::turn(state, table, rows, &none, &mut bitmap, command);
     let answer = done.answer;
-    let reply = reply_of(answer);
-    let told = reply.values;
-    let value = [told[0]];
-    let size = print_line(b'p', reply.number, &value, out);
-    send(out, size);
+    send_purged(reply_of(answer), out);
     let live = store::part::live_rows(state, rows, lot, answer);
     let more = print_part(live, out);
     let s = done.state;
@@ -217,6 +215,78 @@ fn purge(state: State, table: Table, rows: &mut [u64], lot: u64, out: &mut [u8])
         table: t,
         written: more,
     }
+}
+
+// The call that a small letter names, by its first two numbers.
+fn command_of(letter: u8, a: u64, b: u64) -> Command {
+    match letter {
+        b'n' => Command::Create { start: a },
+        b'f' => Command::Append {
+            txn: a,
+            partition: b,
+        },
+        b'd' => Command::Clear {
+            txn: a,
+            partition: b,
+        },
+        b'q' => Command::Manage(ManagerCall::BeginRo { epoch: 0 }),
+        _ => Command::Manage(ManagerCall::Begin),
+    }
+}
+
+// How often it is made; a letter that names none makes none.
+fn times_of(letter: u8, a: u64, c: u64) -> u64 {
+    match letter {
+        b'n' | b'g' | b'f' => 1,
+        b'b' | b'q' => a,
+        b'd' => c,
+        _ => 0,
+    }
+}
+
+// How many rows it is lent.
+fn rows_of(letter: u8, a: u64) -> usize {
+    if letter == b'g' {
+        a as usize
+    } else {
+        ROWS_LENT
+    }
+}
+
+// How many rows its batch has.
+fn batch_of(letter: u8, c: u64) -> usize {
+    if letter == b'f' { c as usize } else { 0 }
+}
+
+// A line of a small letter that repeats a call.
+fn calls(
+    state: State,
+    table: Table,
+    rows: &mut [u64],
+    letter: u8,
+    a: u64,
+    b: u64,
+    c: u64,
+    out: &mut [u8],
+) -> Said {
+    let times = times_of(letter, a, c);
+    let n = rows_of(letter, a);
+    let size = batch_of(letter, c);
+    if times == 0 || rows.len() < n || NUMBERS_MAX < size {
+        return silent(state, table);
+    }
+    let batch = [ROW; NUMBERS_MAX];
+    let command = command_of(letter, a, b);
+    repeat(
+        state,
+        table,
+        &mut rows[0..n],
+        &batch[0..size],
+        command,
+        letter,
+        times,
+        out,
+    )
 }
 
 // A line of a small letter, and its first four numbers.
@@ -231,134 +301,25 @@ fn edge(
     d: u64,
     out: &mut [u8],
 ) -> Said {
-    let none = [0u64; 0];
-    let batch = [ROW; NUMBERS_MAX];
     if rows.len() < ROWS_LENT {
-        return Said {
-            state: state,
-            table: table,
-            written: 0,
-        };
+        return silent(state, table);
     }
     match letter {
-        b'n' => number_only(
-            state,
-            table,
-            &mut rows[0..ROWS_LENT],
-            Command::Create { start: a },
-            letter,
-            out,
-        ),
         b'w' => {
             let poked = poke::poke(state, table, a, b);
-            let s = poked.state;
-            let t = poked.table;
-            Said {
-                state: s,
-                table: t,
-                written: 0,
-            }
+            silent(poked.state, poked.table)
         }
         b't' => scan(
             state,
             table,
             &mut rows[0..ROWS_LENT],
-            a,
-            b,
+            reader_of(a, b),
             c,
             d as usize,
             out,
         ),
         b'p' => purge(state, table, &mut rows[0..ROWS_LENT], a, out),
-        b'g' => {
-            let n = a as usize;
-            if rows.len() < n {
-                return Said {
-                    state: state,
-                    table: table,
-                    written: 0,
-                };
-            }
-            number_only(
-                state,
-                table,
-                &mut rows[0..n],
-                Command::Manage(ManagerCall::Begin),
-                letter,
-                out,
-            )
-        }
-        b'f' => {
-            let n = c as usize;
-            if NUMBERS_MAX < n {
-                return Said {
-                    state: state,
-                    table: table,
-                    written: 0,
-                };
-            }
-            let command = Command::Append {
-                txn: a,
-                partition: b,
-            };
-            repeat(
-                state,
-                table,
-                &mut rows[0..ROWS_LENT],
-                &batch[0..n],
-                command,
-                letter,
-                1,
-                out,
-            )
-        }
-        b'b' => {
-            let command = Command::Manage(ManagerCall::Begin);
-            repeat(
-                state,
-                table,
-                &mut rows[0..ROWS_LENT],
-                &none,
-                command,
-                letter,
-                a,
-                out,
-            )
-        }
-        b'q' => {
-            let command = Command::Manage(ManagerCall::BeginRo { epoch: 0 });
-            repeat(
-                state,
-                table,
-                &mut rows[0..ROWS_LENT],
-                &none,
-                command,
-                letter,
-                a,
-                out,
-            )
-        }
-        b'd' => {
-            let command = Command::Clear {
-                txn: a,
-                partition: b,
-            };
-            repeat(
-                state,
-                table,
-                &mut rows[0..ROWS_LENT],
-                &none,
-                command,
-                letter,
-                c,
-                out,
-            )
-        }
-        _ => Said {
-            state: state,
-            table: table,
-            written: 0,
-        },
+        _ => calls(state, table, rows, letter, a, b, c, out),
     }
 }
 
@@ -378,6 +339,28 @@ fn has_numbers(line: &[u8], numbers: &mut [u64]) -> bool {
     }
 }
 
+// A line of a session, with its end.
+fn session_line(
+    state: State,
+    table: Table,
+    line: &[u8],
+    rows: &mut [u64],
+    numbers: &mut [u64],
+    out: &mut [u8],
+) -> Said {
+    if rows.len() < ROWS_LENT {
+        return silent(state, table);
+    }
+    let done = replay::replay(state, table, line, &mut rows[0..ROWS_LENT], numbers, out);
+    let s = done.state;
+    let t = done.table;
+    Said {
+        state: s,
+        table: t,
+        written: done.written,
+    }
+}
+
 // One line of the cases, with its end. Of a line of a small letter the letter was taken, and A put in its place.
 fn say(
     state: State,
@@ -388,36 +371,14 @@ fn say(
     numbers: &mut [u64],
     out: &mut [u8],
 ) -> Said {
-    if rows.len() < ROWS_LENT {
-        return Said {
-            state: state,
-            table: table,
-            written: 0,
-        };
-    }
     if letter < b'a' {
-        let done = replay::replay(state, table, line, &mut rows[0..ROWS_LENT], numbers, out);
-        let s = done.state;
-        let t = done.table;
-        return Said {
-            state: s,
-            table: t,
-            written: done.written,
-        };
+        return session_line(state, table, line, rows, numbers, out);
     }
     if !has_numbers(line, numbers) {
-        return Said {
-            state: state,
-            table: table,
-            written: 0,
-        };
+        return silent(state, table);
     }
     if numbers.len() < 4 {
-        return Said {
-            state: state,
-            table: table,
-            written: 0,
-        };
+        return silent(state, table);
     }
     edge(
         state,
@@ -439,6 +400,15 @@ struct Stepped {
     next: usize,
 }
 
+// There is no further line.
+fn ended(state: State, table: Table) -> Stepped {
+    Stepped {
+        state: state,
+        table: table,
+        next: 0,
+    }
+}
+
 // A line of a small letter is read as an append, for its numbers.
 fn as_append(letter: u8) -> u8 {
     if b'a' <= letter { b'A' } else { letter }
@@ -456,26 +426,14 @@ fn step(
     out: &mut [u8],
 ) -> Stepped {
     if input.len() < n {
-        return Stepped {
-            state: state,
-            table: table,
-            next: 0,
-        };
+        return ended(state, table);
     }
     let stop = session_text::line_end(input, used);
     if stop < used {
-        return Stepped {
-            state: state,
-            table: table,
-            next: 0,
-        };
+        return ended(state, table);
     }
     if n <= stop {
-        return Stepped {
-            state: state,
-            table: table,
-            next: 0,
-        };
+        return ended(state, table);
     }
     let letter = input[used];
     let next = stop + 1;
@@ -489,11 +447,7 @@ fn step(
     }
     input[used] = as_append(letter);
     if input.len() < next {
-        return Stepped {
-            state: state,
-            table: table,
-            next: 0,
-        };
+        return ended(state, table);
     }
     let said = say(state, table, letter, &input[used..next], rows, numbers, out);
     let s = said.state;

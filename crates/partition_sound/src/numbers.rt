@@ -1,7 +1,6 @@
 // Tests over a slice of numbers.
+use epoch::follows;
 ghost use mathlib.Core.Path.{_≡_};
-ghost use Prim.Native.Nat.{suc};
-ghost use lib.Dec.{eqb};
 ghost use Rattle.lists.specs.Lists.{elem, distinct};
 ghost use Rattle.partition_sound.specs.Areas.{allBelow};
 ghost use Rattle.partition_sound.specs.Asked.{fills};
@@ -64,14 +63,4 @@ pub fn fill(xs: &[u64], lo: u64, hi: u64) -> bool
         i += 1;
     }
     follows(last, hi)
-}
-
-// y is one more than x.
-fn follows(x: u64, y: u64) -> bool
-    ensures { λ r. ⌜ r ≡ eqb (suc x) y ⌝ }
-{
-    if y <= x {
-        return false;
-    }
-    y - x == 1
 }

@@ -48,7 +48,7 @@ fn scan_partition(a: Area, q: Partition, v: View, k: usize) -> Look
     ensures { λ r. ⌜ r ≡ lookAt a q v k ⌝ }
 {
     let rows = q.rows;
-    let count = visible::pack::bytes_for(rows);
+    let count = bitmap::bytes_for(rows);
     if k < count {
         return refused(Refusal::ShortBitmap);
     }

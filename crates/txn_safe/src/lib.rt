@@ -1,4 +1,5 @@
 // Moving LSE, and how far it may move, on the books by value. 01 "The books", Move LSE; 004 III-C 5.
+use epoch::lower;
 use epoch::predecessor;
 use places::in_use;
 use rules::Answer;
@@ -75,12 +76,6 @@ fn is_blocked(ts: RwTxns, deps: &[u64], ps: RoTxns, t: u64) -> bool
         return true;
     }
     dep_blocks(ts, deps, t)
-}
-
-fn lower(a: u64, b: u64) -> u64
-    ensures { λ r. ⌜ r ≡ min a b ⌝ }
-{
-    if a < b { a } else { b }
 }
 
 // The lowest of top and the epochs of the read-only transactions.

@@ -1,5 +1,5 @@
 // Whether the manager is sound. 01 "Refusals that come from the state", last paragraph.
-use epoch::Epoch;
+use epoch::clock_ok;
 use places::in_use;
 use rules::Clock;
 use rules::RoTxn;
@@ -16,23 +16,8 @@ ghost use lib.Dec.{eqb};
 ghost use lib.ListN.{length, drop};
 ghost use Rattle.rules.specs.Limits.{depsAll};
 ghost use Rattle.rules.specs.Manager.{managerWith};
-ghost use Rattle.rules.specs.WellFormed.{zeros, clockOk, managerOk};
+ghost use Rattle.rules.specs.WellFormed.{zeros, managerOk};
 ghost use Rattle.txn_sound.specs.Sound.{waitsOk, rowOk, writersTested, readerOk, readersTested};
-
-fn clock_ok(c: Clock) -> bool
-    ensures { λ r. ⌜ r ≡ clockOk c ⌝ }
-{
-    if c.ec < Epoch::FIRST.number {
-        return false;
-    }
-    if Epoch::LAST.number + 1 < c.ec {
-        return false;
-    }
-    if c.ec <= c.lce {
-        return false;
-    }
-    c.lse <= c.lce
-}
 
 // ---- read-write transactions
 

@@ -1,8 +1,8 @@
 // Who sees a row, and what a scan writes. 01 "Who sees a row"; 004 III-C 3.
 use crate::ends::ends_ok;
-use crate::pack::bytes_for;
 use crate::write::write;
 use area::Area;
+use bitmap::bytes_for;
 use places::in_use;
 use rules::limits::DEPS_MAX;
 use rules::limits::ENTRIES_MAX;
@@ -10,7 +10,7 @@ use rules::limits::ROWS_MAX;
 
 pub mod delete;
 mod ends;
-pub mod pack;
+mod pack;
 mod rows;
 pub mod sees;
 mod write;

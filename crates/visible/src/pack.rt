@@ -4,17 +4,7 @@ ghost use mathlib.Core.Bool.{cond};
 ghost use mathlib.Core.List.{_++_};
 ghost use Prim.Native.Nat.{_≤_, _+_, _*_};
 ghost use lib.ListN.{length, take, drop};
-ghost use Rattle.rules.specs.Bitmap.{bytesFor, byteOf, packed};
-
-// The bytes that so many rows need.
-pub fn bytes_for(rows: usize) -> usize
-    ensures { λ r. ⌜ r ≡ bytesFor rows ⌝ }
-{
-    if rows % 8 == 0 {
-        return rows / 8;
-    }
-    rows / 8 + 1
-}
+ghost use Rattle.rules.specs.Bitmap.{byteOf, packed};
 
 fn bit(b: bool) -> u8
     ensures { λ r. ⌜ r ≡ cond b 1 0 ⌝ }

@@ -1,10 +1,10 @@
 // A scan whose input is right: the greatest delete, a flag a row, then a bit a row. 01 "Who sees a row".
 use crate::View;
 use crate::delete::find_top;
-use crate::pack::bytes_for;
 use crate::pack::pack;
 use crate::rows::show_front;
 use area::Area;
+use bitmap::bytes_for;
 use rules::limits::ROWS_MAX;
 ghost use mathlib.Core.Path.{_≡_};
 ghost use mathlib.Core.Bool.{true};

@@ -3,9 +3,9 @@
 use mathlib.Core.Path.{_≡_}
 use mathlib.Core.Bool.{_&&_}
 use borrow.Author.Needs.{needs}
-use borrow.Author.Tests.{eq-eqb, ne-eqb, le-leb}
+use borrow.Author.Tests.{eq-eqb, ne-eqb, le-leb, lt-leb}
 use Rattle.lists.proofs.Laws.Bools.{and-right}
-use Rattle.lists.proofs.Laws.Branches.{tests, said}
+use Rattle.lists.proofs.Laws.Branches.{said}
 use Rattle.rules.specs.Safe.{blocked, targetOf, advancedManager}
 use Rattle.rules.specs.Calls.{advanceLseAnswer}
 use Rattle.rules.specs.WellFormed.{managerOk}
@@ -61,8 +61,11 @@ advance-lse-spec =
     (λ c κs. search needs)
     (λ c κs. search needs)
     returns
-    (λ c. let t = c .before .before in search (tests, said (sound (t .before)) (t .if1 .taken)))
-    (λ c. let t = c .before .before .before in search (tests, said (sound (t .before)) (t .if1 .taken)))
+    (λ c. let z = c .before in let t = z .before in
+      rw (said (sound (t .before)) (t .if1 .taken), ne-eqb _ _ (z .if2 .left), lt-leb _ _ (c .if3 .taken)))
+    (λ c. let l = c .before in let z = l .before in let t = z .before in
+      rw (said (sound (t .before)) (t .if1 .taken), ne-eqb _ _ (z .if2 .left), le-leb _ _ (l .if3 .left),
+        lt-leb _ _ (c .if4 .taken)))
     returns-4
     returns-5
     (λ c. rw (said (sound (c .before)) (c .if1 .left))))

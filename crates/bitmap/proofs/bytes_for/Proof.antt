@@ -1,10 +1,10 @@
--- `visible::pack::bytes_for` meets its contract: one more than the quotient where eight does not divide.
+-- `bitmap::bytes_for` meets its contract: one more than the quotient where eight does not divide.
 -- Assumes nothing.
 use native.Mathlib.Omega.{arith}
 use Rattle.rules.specs.Bitmap.{bytesFor}
 use borrow.Author.Needs.{needs}
-use Rattle.visible.proofs.pack.bytes_for.Statement.{statement}
-use Rattle.visible.proofs.pack.bytes_for.Tie as tie
+use Rattle.bitmap.proofs.bytes_for.Statement.{statement}
+use Rattle.bitmap.proofs.bytes_for.Tie as tie
 
 returns : tie.Need-returns
 unfolding bytesFor

@@ -4,8 +4,8 @@ use Rattle.lists.proofs.Laws.Branches.{tests}
 use Rattle.rules.specs.Limits.{lastEpoch}
 use Rattle.rules.specs.WellFormed.{clockOk}
 use borrow.Author.Needs.{needs}
-use Rattle.txn_sound.proofs.clock_ok.Statement.{statement}
-use Rattle.txn_sound.proofs.clock_ok.Tie as tie
+use Rattle.epoch.proofs.clock_ok.Statement.{statement}
+use Rattle.epoch.proofs.clock_ok.Tie as tie
 
 pub clock-ok-spec : {M : Type 1} → statement M
 unfolding clockOk lastEpoch

@@ -6,8 +6,8 @@ use lib.Dec.{eqb}
 use borrow.Author.Needs.{needs}
 use borrow.Author.Tests.{eq-eqb, ne-eqb}
 use Rattle.lists.proofs.Laws.Bools.{split-eq}
-use Rattle.partition_sound.proofs.numbers.follows.Statement.{statement}
-use Rattle.partition_sound.proofs.numbers.follows.Tie as tie
+use Rattle.epoch.proofs.follows.Statement.{statement}
+use Rattle.epoch.proofs.follows.Tie as tie
 
 one-apart : (x y : ℕ) → x < y → eqb (y - x) 1 ≡ eqb (suc x) y
 one-apart x y h = split-eq (suc x) y
