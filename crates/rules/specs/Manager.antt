@@ -1,6 +1,7 @@
 -- The transaction manager (01: the books without the lots) read as lists, and written back. 01 "The books".
--- In order: records, the manager, transactions in use, setters, an open transaction, a read-only one. The only file that
--- writes all fields of the manager and of its records out, and the only one that knows how the deps lie in their table.
+-- In order: records, the manager, transactions in use, setters, an open transaction, a read-only one. The only file
+-- that writes all fields of the manager and of its records out, and the only one that knows how the deps lie in their
+-- table.
 -- Assumes nothing.
 use mathlib.Core.Bool.{Bool, _&&_}
 use mathlib.Core.List.{List, [], _∷_, map}

@@ -61,8 +61,8 @@ pub struct Partitions {
     pub spare: usize,
 }
 
-// 01's books, kept by value: the transaction manager (specs/Manager.antt), then the lots. The areas of rows and of entries
-// are lent. deps is one table for all records: row i, its words 31 * i to 31 * i + 30, belongs to record i.
+// 01's books, kept by value: the transaction manager (specs/Manager.antt), then the lots. The areas of rows and of
+// entries are lent. deps is one table for all records: row i, its words 31 * i to 31 * i + 30, belongs to record i.
 #[repr(C)]
 pub struct State {
     pub clock: Clock,

@@ -210,7 +210,8 @@ module _ (sh : Shape) where
               assigns ! (of-opd ! (load ! (from ! (fld ! refl (stop !))) (look-in ! 2 (sub ! 1 refl (within ! 2
                   refl))))) (spot ! (at-l 1) (stop !)) (sets ! 3 1 refl tt (tt, record { fits = r₂ .0 })) $
               measuring q P Q 𝓤 H A W b n l pl y ft $
-              yield-call fm (q .asked) askedParts (q .askedOf) known-ask (y .state .clock, (y .state .writers, (y .state .partitions, tt))) (in-books (y .state) gb) (λ _. ask-args ! 3 (y .state) refl
+              yield-call fm (q .asked) askedParts (q .askedOf) known-ask (y .state .clock, (y .state
+                  .writers, (y .state .partitions, tt))) (in-books (y .state) gb) (λ _. ask-args ! 3 (y .state) refl
                   refl refl refl) (λ ga.
               land ! (spot ! (at-h 0) (stop !)) (sets ! 4 0 refl tt (q .asked .wt 𝓤 H A W (asksOf q (y .state)) ga)) $
               assigns ! (addr ! (from ! (fld ! refl (hop ! (look-in ! 2 (sub ! 0 refl (within ! 1 refl))) (stop !)))))

@@ -166,7 +166,8 @@ module _ {M : Type 1} (𝓤 : URA M) (H : Heap 𝓤) (A : Atoms 𝓤) (W : Given
     heading (asking a) ts known = step (λ k.
         assigns ! (of-opd ! (load ! (from ! (fld ! refl (stop !))) (look-in ! 2 (sub ! 1 refl (within ! 2 refl)))))
             (spot ! (at-t (asking a) ts 0) (stop !)) (sets ! 3 0 refl tt (tt, record { fits = r₂ .0 })) $
-        yield-call (fmOf 𝓤 H (W .laws) 𝓣) (a .asked) askedParts (a .askedOf) (known .0) (s .clock, (s .writers, (s .partitions, tt))) (in-books s gs) (λ _. ask-args ! 3 s refl refl refl refl) (λ ga.
+        yield-call (fmOf 𝓤 H (W .laws) 𝓣) (a .asked) askedParts (a .askedOf) (known .0) (s .clock, (s .writers, (s
+            .partitions, tt))) (in-books s gs) (λ _. ask-args ! 3 s refl refl refl refl) (λ ga.
         land ! (spot ! (at-t (asking a) ts 1) (stop !)) (sets ! 3 1 refl tt (a .asked .wt 𝓤 H A W (asksOf a s) ga)) $
         find-call (fmOf 𝓤 H (W .laws) 𝓣) T.the-row flag (number ∷ a .asked ∷ []) (a .soundOf) (known .1) x₁ (length (x₂
             .list), (asksOf a s, tt)) ((refl, r₂ .0), (ga, tt)) (λ _ _. and-then ! (get ! 2 1 refl refl refl) (and-then

@@ -22,7 +22,8 @@ start a = tested a .before .before .before .before .before .before .before
 sound : (a : tie.After-admit) → let s = start a in
     tested a .parts-sound .result ≡ (s .args .rest && managerOk (managerIn (s .args .t1)))
 sound a = let s = start a in
-    parts-sound-is (managerIn (s .args .t1)) (s .args .rest) (sized (s .args .t1) (s .good .0)) (tested a .parts-sound .ensures)
+    parts-sound-is (managerIn (s .args .t1)) (s .args .rest) (sized (s .args .t1) (s .good .0))
+      (tested a .parts-sound .ensures)
 
 returns : tie.Need-returns
 unfolding purgePlan

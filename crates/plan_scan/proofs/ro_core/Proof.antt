@@ -25,7 +25,8 @@ start a = tested a .before .before .before .before .before .before .before
 sound : (a : tie.After-admit) → let s = start a in
     tested a .parts-sound .result ≡ (s .args .rest && managerOk (managerIn (s .args .t1)))
 sound a = let s = start a in
-    parts-sound-is (managerIn (s .args .t1)) (s .args .rest) (sized (s .args .t1) (s .good .0)) (tested a .parts-sound .ensures)
+    parts-sound-is (managerIn (s .args .t1)) (s .args .rest) (sized (s .args .t1) (s .good .0))
+      (tested a .parts-sound .ensures)
 
 returns : tie.Need-returns
 unfolding roLook
@@ -38,14 +39,14 @@ returns c = let t = c .before in let f = t .before .before in let k = f .before 
 mul-page : tie.Need-mul-page
 mul-page c = let j = c .before in let f = j .before .before in
     let s = start (f .before .before .before .before .before) in
-    omega (arith, reader-stands (managerIn (s .args .t1)) _ (sized (s .args .t1) (s .good .0)) (f .find-reader .ensures) (j .j .given
-      .1) .below)
+    omega (arith, reader-stands (managerIn (s .args .t1)) _ (sized (s .args .t1) (s .good .0))
+      (f .find-reader .ensures) (j .j .given .1) .below)
 
 element-copy-out-page : tie.Need-element-copy-out-page
 element-copy-out-page c = let j = c .before in let f = j .before .before in
     let s = start (f .before .before .before .before .before) in
-    omega (arith, reader-stands (managerIn (s .args .t1)) _ (sized (s .args .t1) (s .good .0)) (f .find-reader .ensures) (j .j .given
-      .1) .below)
+    omega (arith, reader-stands (managerIn (s .args .t1)) _ (sized (s .args .t1) (s .good .0))
+      (f .find-reader .ensures) (j .j .given .1) .below)
 
 returns-2 : tie.Need-returns-2
 unfolding roLook
@@ -56,7 +57,8 @@ returns-3 : tie.Need-returns-3
 unfolding roLook
 returns-3 c = let v = c .before in let j = v .before .before in let f = j .before .before in
     let k = f .before .before .before in let a = k .before .before in let s = start a in
-    let w = reader-stands (managerIn (s .args .t1)) _ (sized (s .args .t1) (s .good .0)) (f .find-reader .ensures) (j .j .given .1)
+    let w = reader-stands (managerIn (s .args .t1)) _ (sized (s .args .t1) (s .good .0)) (f .find-reader .ensures)
+          (j .j .given .1)
         in rw (← sound a, ← a .admit .ensures, k .admitted2 .given .1, w .any, w .first noRo, ← v .page .ensures)
     (c .scan-partition .ensures)
 

@@ -51,7 +51,8 @@ start a = tested a .before .before .before .before .before .before .before
 sound : (a : tie.After-admit) → let s = start a in
     tested a .parts-sound .result ≡ (s .args .rest && managerOk (managerIn (s .args .t1)))
 sound a = let s = start a in
-    parts-sound-is (managerIn (s .args .t1)) (s .args .rest) (sized (s .args .t1) (s .good .0)) (tested a .parts-sound .ensures)
+    parts-sound-is (managerIn (s .args .t1)) (s .args .rest) (sized (s .args .t1) (s .good .0))
+      (tested a .parts-sound .ensures)
 
 returns : tie.Need-returns
 unfolding rwLook
@@ -63,14 +64,14 @@ returns c = let t = c .before in let f = t .before .before in let k = f .before 
 
 mul-n : tie.Need-mul-n
 mul-n c = let j = c .before in let f = j .before .before in let s = start (f .before .before .before .before .before) in
-    omega (arith, writer-stands (managerIn (s .args .t1)) _ (sized (s .args .t1) (s .good .0)) (f .find-writer .ensures) (j .j .given
-      .1) .below)
+    omega (arith, writer-stands (managerIn (s .args .t1)) _ (sized (s .args .t1) (s .good .0))
+      (f .find-writer .ensures) (j .j .given .1) .below)
 
 element-copy-out-n : tie.Need-element-copy-out-n
 element-copy-out-n c = let j = c .before in let f = j .before .before in
     let s = start (f .before .before .before .before .before) in
-    omega (arith, writer-stands (managerIn (s .args .t1)) _ (sized (s .args .t1) (s .good .0)) (f .find-writer .ensures) (j .j .given
-      .1) .below)
+    omega (arith, writer-stands (managerIn (s .args .t1)) _ (sized (s .args .t1) (s .good .0))
+      (f .find-writer .ensures) (j .j .given .1) .below)
 
 returns-2 : tie.Need-returns-2
 unfolding rwLook

@@ -33,7 +33,8 @@ pub sound-is : (s : State) (es : List Entry) (rs : List ℕ)
     → restIn s es rs && managerOk (managerIn s) ≡ wellFormed (storeOf s rs es)
 unfolding restOk lengthsAre lengthsOk
 sound-is s es rs = rw (rest-asked s es (length rs), wellFormed-is (storeOf s rs es))
-    (exchange (lengthsAre (length es) (length rs)) (partitionsOk (managerIn s) es (s .partitions)) (managerOk (managerIn s))) where
+    (exchange (lengthsAre (length es) (length rs)) (partitionsOk (managerIn s) es (s .partitions))
+      (managerOk (managerIn s))) where
     exchange : (a b c : Bool) → (a && b) && c ≡ (a && c) && b
     exchange true b c = and-comm b c
     exchange false b c = refl

@@ -32,8 +32,8 @@ returns-2 c =
     let q = c .before .before in let k = q .before .before in let j = k .before .before .before in
     let f = j .before .before in let s = f .before in let a = s .args in let e = k .close .ensures in
     let ws = viewed (a .ts) (a .deps .now) in let n = j .j .given .0 .0 in
-    let is = settled-are (a .clock) (closedTxns (a .waits) n (a .i) ws) (closed-fits (s .pre) (a .waits) n (a .i)) _ _ _ _
-          (e .0) (e .1) (q .settle .ensures) in
+    let is = settled-are (a .clock) (closedTxns (a .waits) n (a .i) ws) (closed-fits (s .pre) (a .waits) n (a .i)) _ _
+          _ _ (e .0) (e .1) (q .settle .ensures) in
     rw (sym (f .find-writer .ensures) ∙ j .j .given .1) (ap endedWith (is .0), is .1)
 
 pub close-at-spec : {M : Type 1} → statement M
