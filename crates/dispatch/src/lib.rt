@@ -61,7 +61,7 @@ pub fn dispatch(
 }
 
 // turn is proved by hand, since it lends the entries. What it does beside that call stands in these two, which are not.
-fn entries_in(table: Table) -> [Entry; ENTRIES_LENT]
+pub fn entries_in(table: Table) -> [Entry; ENTRIES_LENT]
     ensures { λ r. ⌜ r ≡ table .at ⌝ }
 {
     table.at

@@ -3,6 +3,7 @@ pub mod Rooms
 pub mod Shown
 pub mod Line
 pub mod Lines
+pub mod Turn
 pub mod Chunks
 pub mod Flushes
 pub mod Start

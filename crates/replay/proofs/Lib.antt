@@ -1,2 +1,4 @@
 pub mod Laws
 pub mod Session
+pub mod Types
+pub mod Turning

@@ -4,3 +4,4 @@ pub mod Lines
 pub mod Chunks
 pub mod Start
 pub mod Shown
+pub mod Turn

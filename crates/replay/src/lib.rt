@@ -4,6 +4,7 @@ mod lines;
 mod opening;
 mod rest;
 mod shown;
+mod turn;
 
 pub use lines::Replayed;
 pub use lines::replay;

@@ -1,19 +1,26 @@
 // A buffer of lines, one answered after the other. 01 "A session".
-use crate::limits::ANSWER_MAX;
-use crate::limits::BITMAP_MAX;
-use crate::limits::NUMBERS_MAX;
-use crate::shown::print_answer;
-use dispatch::Turned;
-use dispatch::turn;
+use crate::turn::Cursor;
+use crate::turn::answer_line;
+use crate::turn::batch_of;
+use crate::turn::blank_bits;
+use crate::turn::command_of;
+use crate::turn::has_line;
+use crate::turn::read_line;
+use crate::turn::room_for;
+use crate::turn::seek;
+use crate::turn::state_of;
+use dispatch::dispatch;
+use dispatch::entries_in;
 use lent::Table;
-use rules::Answer;
+use rules::Entry;
 use rules::State;
-use session_text::Parsed;
+use rules::limits::ENTRIES_LENT;
 ghost use mathlib.Core.Path.{_≡_};
 ghost use lib.ListN.{length};
 ghost use Rattle.lists.specs.Lists.{over};
 ghost use Rattle.store.specs.Kept.{storeOf};
 ghost use Rattle.replay.specs.Replay.{afterLines, answersTo};
+ghost use Rattle.replay.specs.Turn.{replayedOf};
 ghost use Rattle.replay.specs.Lines.{replayed, bytesOf, heldLines};
 
 // The store after the lines, how many bytes of input they were, and how many bytes answer them.
@@ -22,6 +29,18 @@ pub struct Replayed {
     pub table: Table,
     pub used: usize,
     pub written: usize,
+}
+
+fn replayed_of(state: State, entries: [Entry; ENTRIES_LENT], at: Cursor) -> Replayed
+    ensures { λ r. ⌜ r ≡ replayedOf state entries at ⌝ }
+{
+    let table = Table { at: entries };
+    Replayed {
+        state,
+        table,
+        used: at.used,
+        written: at.written,
+    }
 }
 
 // The whole lines at the front of `input`, each answered while 16,384 bytes of `out` are left; the answers stand one
@@ -50,65 +69,19 @@ pub fn replay(
         let ls = replayed (now (numbers .entry)) (now (out .entry)) (now (input .entry)) st in
         ⌜ now (numbers .exit) ≡ heldLines ls st (now (numbers .entry)) ⌝ }
 {
-    let mut kept = Turned {
-        answer: Answer::Created,
-        state,
-        table,
-    };
-    let mut used = 0;
-    let mut written = 0;
-    if numbers.len() < NUMBERS_MAX {
-        return Replayed {
-            state,
-            table,
-            used,
-            written,
-        };
+    let room = room_for(numbers.len(), out.len());
+    let mut at = seek(input, room, 0, 0);
+    let mut books = state;
+    let mut entries = entries_in(table);
+    while has_line(at) {
+        let parsed = read_line(input, numbers, at);
+        let mut bitmap = blank_bits();
+        let command = command_of(parsed);
+        let batch = batch_of(numbers, parsed);
+        let kept = dispatch(books, &mut entries, rows, batch, &mut bitmap, command);
+        let next = answer_line(input, rows, numbers, out, bitmap, parsed, kept, at);
+        books = state_of(kept);
+        at = next;
     }
-    while ANSWER_MAX <= out.len() - written {
-        let end = session_text::line_end(input, used);
-        if end == input.len() {
-            break;
-        }
-        let parsed = session_text::parse(&input[used..end], numbers);
-        used = end + 1;
-        match parsed {
-            Parsed::Bad => {
-                written += session_text::print_question(&mut out[written..]);
-            }
-            Parsed::Call {
-                command,
-                rows: count,
-            } => {
-                let mut bitmap = [0u8; BITMAP_MAX];
-                let last = 2 + count;
-                kept = turn(
-                    kept.state,
-                    kept.table,
-                    rows,
-                    &numbers[2..last],
-                    &mut bitmap,
-                    command,
-                );
-                let answer = kept.answer;
-                written += print_answer(
-                    command,
-                    answer,
-                    kept.state.partitions,
-                    rows,
-                    &bitmap,
-                    numbers,
-                    &mut out[written..],
-                );
-            }
-        }
-    }
-    let s = kept.state;
-    let t = kept.table;
-    Replayed {
-        state: s,
-        table: t,
-        used,
-        written,
-    }
+    replayed_of(books, entries, at)
 }

@@ -58,8 +58,8 @@ use Rattle.lent.proofs.Table as B
 use Rattle.lent.proofs.Table.Laws as B′
 use Rattle.walks.proofs.Locals.{Blocks, envOf, spot}
 use Rattle.walks.proofs.Frame.{Use, bare, holds, Frame, bares, allocs-frame, frees-frame, sets, within, get}
-use Rattle.walks.proofs.Lend.{lent-by, Lent, local-lent, token, mutAt, shr, refOf, valOf, calling, held}
-use Rattle.walks.proofs.Loans.{Loan, writing-local, nows, gathers, scatters}
+use Rattle.walks.proofs.Lend.{lent-by, Lent, token, mutAt, shr, refOf, valOf, calling, held}
+use Rattle.walks.proofs.Loans.{Loan, writing, writing-local, nows, gathers, scatters}
 use Rattle.walks.proofs.Calls.{Yields, yield-call}
 use Rattle.walks.proofs.Groups.{relends, comes-in, goes-out}
 use Rattle.walks.proofs.Shown.{Shown, value-in, value-out}
@@ -68,7 +68,7 @@ use Rattle.shapes.proofs.Core.{state, books}
 use Rattle.store.proofs.Types.{kept}
 use Rattle.dispatch.proofs.Turned as Tn
 use Rattle.dispatch.proofs.Turned.Laws as Tn′
-use Rattle.dispatch.proofs.Turning.{ordered, command, Turns, turn-call}
+use Rattle.dispatch.proofs.Turning.{ordered, command, Turns, turn-call, written, local-written}
 use Rattle.dispatch.proofs.entries_in.Symbol as entries-in-def
 use Rattle.dispatch.proofs.entries_in.Met as entries-in-thm
 use Rattle.dispatch.proofs.dispatch as dispatch
@@ -181,7 +181,7 @@ module _ {M : Type 1} (𝓤 : URA M) (H : Heap 𝓤) (A : Atoms 𝓤) (W : Given
       l₁ = writing-local T.the-row (named 0) 576 tt (lit< tt, lit< tt) b (tb .at)
 
       abbrev lent : List Loan
-      lent = Turns l₁ (named 0) (named 2) x₂ x₃ x₄ r₂ r₄
+      lent = Turns l₁ (writing (named 2) x₄ r₄) (named 0) x₂ x₃ r₂
 
       body : Sq W (Frame Fs start ∷ Frame Gs (bares others) ∷ ‵ (froom (Area .mir) b 0) ∷ ‵ (fdies (Area .mir) b) ∷
           Ended (x₂
@@ -200,10 +200,10 @@ module _ {M : Type 1} (𝓤 : URA M) (H : Heap 𝓤) (A : Atoms 𝓤) (W : Given
           -- [the locals; the array; what frees it; the slices]
           move ! (2 ∷ []) $ value-in ! Area refl (tb .at) b ge $ move ! (0 ∷ 4 ∷ 5 ∷ 6 ∷ []) $ gathers ! lent (nows
               lent) $
-          turn-call l₁ (named 0) (named 2) x₂ x₃ x₄ r₂ r₄ (local-lent b 0 0 (tb .at)) (λ g. g .1) (λ es. es) (λ _.
-              refl)
-              (λ _ _. refl) bk cm 𝓤 H A W at-mem run C known-call gb gc (calling fm)
-          (λ g i j. and-then ! (get ! 2 1 refl refl refl) (and-then ! (as-long ! (g .2) (get ! 3 3 refl refl refl))
+          turn-call l₁ (writing (named 2) x₄ r₄) (named 0) x₂ x₃ r₂
+              (local-written T.the-row (named 0) 576 tt (lit< tt, lit< tt) b (tb .at)) (written u8 (named 2) x₄ r₄)
+              bk cm 𝓤 H A W at-mem run C known-call gb gc (calling fm)
+          (λ g i j. and-then ! (get ! 2 1 refl refl refl) (and-then ! (as-long ! (g .0 .2) (get ! 3 3 refl refl refl))
               (and-then ! (get ! 3 5 refl refl refl) (and-then ! (get ! 2 4 refl refl refl) (and-then ! (get ! 3 7
               refl refl refl) (and-then ! (get ! 2 6 refl refl refl) (no-more !))))))) Done (λ _ _ _ _. id⊢ 𝓤 _)
           (λ r zs same did gr. let es = zs .0 in scatters ! lent zs $

@@ -4,7 +4,7 @@
 use mathlib.Core.Path.{_≡_, refl, sym, _∙_, ap, subst}
 use mathlib.Core.Bool.{true, false}
 use mathlib.Core.List.{List, [], _∷_}
-use Prim.Native.Nat.{ℕ, _+_, _≤_, _<_}
+use Prim.Native.Nat.{ℕ, _+_, _≤_}
 use native.Mathlib.Omega.{arith}
 use denote.Enum.Declared.{tagOf}
 use types.Run.{OneOf, miss}
@@ -16,19 +16,18 @@ use Rattle.lists.proofs.Laws.Bools.{split}
 use Rattle.rules.specs.Limits.{partitionsMax, areasMax}
 use Rattle.rules.specs.Answers.{accepted, replyOf}
 use Rattle.rules.specs.Store.{Store, partitionAt, rowsAt}
-use Rattle.rules.specs.WellFormed.{wellFormed}
 use Rattle.rules.specs.Step.{step, callOf, purge}
 use Rattle.rules.specs.declared.Command.{Command}
 use Rattle.rules.specs.declared.Command.the-variants.{Create, Manage, Append, Clear, RollBack, Scan, Purge}
 use Rattle.rules.specs.declared.Entry.{Entry}
 use Rattle.rules.proofs.Command.{the-type}
-use Rattle.laws.proofs.Laws.Calls.{purge-passed}
 use Rattle.laws.proofs.Laws.Live.{purge-live}
 use Rattle.laws.proofs.Laws.Sound.{sound-step, refused-same}
 use Rattle.laws.proofs.Laws.WellFormed.{StoreOk, store-facts}
 use Rattle.store.specs.Kept.{storeOf, Left}
 use Rattle.rules.specs.declared.Kept.{Kept}
 use Rattle.dispatch.specs.Dispatch.{Did}
+use Rattle.dispatch.proofs.Nothing.{passed, purge-none}
 use Rattle.exports.specs.Numbered.{kinds, commandOf, onPurge, placeOf, repliedOf, endingOf, Answers}
 
 -- ---- a command that is no purge, by its place in the declaration
@@ -53,17 +52,6 @@ unknown-command k a b t = let h = leb-true kinds k t in
       ne-eqb k 3 (λ e. omega arith), ne-eqb k 4 (λ e. omega arith), ne-eqb k 5 (λ e. omega arith),
       ne-eqb k 6 (λ e. omega arith), ne-eqb k 7 (λ e. omega arith), ne-eqb k 8 (λ e. omega arith),
       ne-eqb k 9 (λ e. omega arith), ne-eqb k 10 (λ e. omega arith), ne-eqb k 11 (λ e. omega arith))
-
-passed : (p : ℕ) (st : Store) → accepted (step (purge p) st .answer) ≡ true
-    → (wellFormed st ≡ true) × (p < partitionsMax)
-unfolding step
-passed p st t = purge-passed p st t
-
--- no store has that partition
-purge-none : (st : Store) → step (purge partitionsMax) st .store ≡ st
-purge-none st = split (accepted (step (purge partitionsMax) st .answer))
-    (λ t. let h = passed partitionsMax st t .1 in absurd (omega arith))
-    (λ f. refused-same (purge partitionsMax) st f .store)
 
 -- ---- the part in force
 

@@ -60,7 +60,7 @@ use Rattle.walks.proofs.Shown.{Shown, number}
 use Rattle.shapes.proofs.Core.{state, books}
 use Rattle.store.proofs.Types.{kept}
 use Rattle.store.proofs.Laws.Write.{state-8}
-use Rattle.dispatch.proofs.Turning.{ordered, Turns, turn-call}
+use Rattle.dispatch.proofs.Turning.{ordered, Turns, turn-call, written}
 use Rattle.dispatch.proofs.dispatch as dispatch
 use Rattle.dispatch.proofs.dispatch.Symbol as dispatch-def
 use Rattle.dispatch.proofs.dispatch.Met as dispatch-thm
@@ -181,7 +181,7 @@ module _ {M : Type 1} (𝓤 : URA M) (H : Heap 𝓤) (A : Atoms 𝓤) (W : Given
       l₁ = writing (named 0) x₁ r₁
 
       abbrev lent : List Loan
-      lent = Turns l₁ (named 1) (named 3) x₂ x₃ x₄ r₂ r₄
+      lent = Turns l₁ (writing (named 3) x₄ r₄) (named 1) x₂ x₃ r₂
 
       body : Sq W (Frame Fs (bare ∷ map holds given) ∷ Frame Gs (bares others) ∷ Ended (x₁ .list) (x₂ .list) (x₄ .list))
           (runs C Λ E (code.function .body) (atRet E Post))
@@ -196,8 +196,8 @@ module _ {M : Type 1} (𝓤 : URA M) (H : Heap 𝓤) (A : Atoms 𝓤) (W : Given
           relends ! x₂ 3 4 5 refl refl refl (r₂ .0) refl refl tt refl refl refl tt $
           relends ! x₄ 5 6 7 refl refl refl (r₄ .0) refl refl tt refl refl refl tt $
           move ! (2 ∷ 3 ∷ 4 ∷ 5 ∷ []) $ gathers ! lent (nows lent) $
-          turn-call l₁ (named 1) (named 3) x₂ x₃ x₄ r₂ r₄ x₁ (λ g. g .1) (λ es. es) (λ _. refl) (λ _ _. refl) bk cm
-              𝓤 H A W at-mem run C (known .of-call) gb gc (calling fm)
+          turn-call l₁ (writing (named 3) x₄ r₄) (named 1) x₂ x₃ r₂ (written T.the-row (named 0) x₁ r₁)
+              (written u8 (named 3) x₄ r₄) bk cm 𝓤 H A W at-mem run C (known .of-call) gb gc (calling fm)
               (λ _ _ _. and-then ! (get ! 2 1 refl refl refl) (and-then ! (get ! 3 3 refl refl refl)
                 (and-then ! (get ! 3 5 refl refl refl) (and-then ! (get ! 2 4 refl refl refl)
                 (and-then ! (get ! 3 7 refl refl refl) (and-then ! (get ! 3 0 refl refl refl) (no-more !)))))))

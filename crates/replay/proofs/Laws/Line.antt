@@ -5,7 +5,7 @@
 use mathlib.Core.Path.{_≡_, refl, sym, _∙_, ap}
 use mathlib.Core.Bool.{cond}
 use mathlib.Core.List.{List}
-use Prim.Native.Nat.{ℕ, _+_, _-_, _≤_}
+use Prim.Native.Nat.{ℕ, _-_, _≤_}
 use native.Mathlib.Omega.{arith}
 use lib.Dec.{leb}
 use lib.ListN.{length, take, drop}
@@ -16,6 +16,7 @@ use Rattle.lists.proofs.Laws.Parts.{length-over}
 use Rattle.rules.specs.Step.{callOf, step}
 use Rattle.rules.specs.Store.{Store}
 use Rattle.rules.specs.declared.Command.{Command}
+use Rattle.rules.specs.declared.Entry.{Entry}
 use Rattle.laws.proofs.Laws.Step.{scan-or}
 use Rattle.session_text.specs.Grammar.{numbersIn, parsed, isCall}
 use Rattle.session_text.specs.Lines.{sizeIn, writtenIn}
@@ -23,11 +24,11 @@ use Rattle.session_text.specs.Print.{printed, question}
 use Rattle.session_text.specs.declared.Parsed.{Parsed}
 use Rattle.session_text.specs.declared.Parsed.the-variants.{Call as Is, Bad}
 use Rattle.store.specs.Kept.{storeOf}
-use Rattle.dispatch.specs.Dispatch.{bitmapLeft, Did, keptIn}
+use Rattle.rules.specs.declared.Kept.{Kept}
+use Rattle.dispatch.specs.Dispatch.{bitmapLeft, Did}
 use Rattle.replay.specs.Replay.{bits, callIn, rowsShown, afterLine, answerTo}
 use Rattle.replay.specs.Rooms.{numbersMax, answerMax, heldAfter}
 use Rattle.replay.specs.Shown.{shownIn, fitting}
-use Rattle.dispatch.specs.declared.Turned.{Turned}
 use Rattle.replay.proofs.Laws.Rooms.{fit-line, room-parsed, rows-batch, shown-few, printed-few}
 
 -- ---- the rows shown
@@ -69,9 +70,6 @@ module _ (line numbers out : List ℕ) (st : Store) (room-n : numbersMax ≤ len
     fit : (k ≡ length (numbersIn line) - 2) × (length (numbersIn line) ≤ numbersMax)
     fit = rw (is-line ∙ is) at (fit-line line)
 
-    pub batch-few : k ≤ numbersMax
-    batch-few = omega (arith, fit .0, fit .1)
-
     numbers-at : w ≡ over 0 (numbersIn line) numbers
     numbers-at = rw is at writes
 
@@ -79,17 +77,12 @@ module _ (line numbers out : List ℕ) (st : Store) (room-n : numbersMax ≤ len
     length-parsed = rw numbers-at (length-over 0 (numbersIn line) numbers (omega (arith, fit .1)))
 
     -- its rows lie in the buffer
-    pub batch-end : 2 + k ≤ length w
-    batch-end = omega (arith, fit .0, fit .1, room-n, length-parsed)
+    batch : take k (drop 2 w) ≡ drop 2 (numbersIn line)
+    batch = rw (fit .0, numbers-at) (rows-batch (numbersIn line) numbers)
 
-    batch : take (2 + k - 2) (drop 2 w) ≡ drop 2 (numbersIn line)
-    batch = let e : 2 + k - 2 ≡ length (numbersIn line) - 2 = omega (arith, fit .0) in
-        rw (e, numbers-at) (rows-batch (numbersIn line) numbers)
-
-    module _ (t : Turned) (rows bytes : List ℕ)
-        (turns : Did c (step (callOf c (take (2 + k - 2) (drop 2 w)) bits) st) (keptIn t) rows (t .table .at) bits
-          bytes) where
-      did : Did c (step (callIn line c) st) (keptIn t) rows (t .table .at) bits bytes
+    module _ (t : Kept) (rows bytes : List ℕ) (entries : List Entry)
+        (turns : Did c (step (callOf c (take k (drop 2 w)) bits) st) t rows entries bits bytes) where
+      did : Did c (step (callIn line c) st) t rows entries bits bytes
       did = rw batch at turns
 
       abbrev left : List ℕ
@@ -103,7 +96,7 @@ module _ (line numbers out : List ℕ) (st : Store) (room-n : numbersMax ≤ len
 
       pub line-called : (size : ℕ) (o v : List ℕ) → size ≡ sizeIn (printed c (t .answer) left) out
           → o ≡ writtenIn (printed c (t .answer) left) out → v ≡ over 0 left w
-          → Said line numbers out st (storeOf (t .state) rows (t .table .at)) size o v
+          → Said line numbers out st (storeOf (t .state) rows entries) size o v
       unfolding afterLine answerTo heldAfter
       line-called size o v p q shows = let a = printed c (step (callIn line c) st .answer) (rowsShown c st) in
           let l = le-leb (length a) (length out) (omega (arith,

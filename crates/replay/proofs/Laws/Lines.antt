@@ -1,21 +1,21 @@
 -- Laws of the lines of a buffer of input. Definitions: specs/Lines.antt, and session_text's lineEnd.
--- In order: the first line; no line without room; answers fit; how much lines take; what is left to answer from a
--- byte on, as the code goes.
+-- In order: the first line; no line without room; answers fit; how much lines take; the output from an index on; what
+-- is left to answer from a byte on, as the code goes.
 -- Assumes nothing.
 use mathlib.Core.Path.{_≡_, refl, sym, _∙_, ap}
 use mathlib.Core.Bool.{cond}
-use mathlib.Core.List.{List, [], _∷_, _++_}
+use mathlib.Core.List.{List, [], _∷_, _++_, append-nil}
 use Prim.Native.Nat.{ℕ, suc, _+_, _-_, _≤_, _<_}
 use native.Mathlib.Omega.{arith}
 use lib.Dec.{leb, eqb}
 use lib.ListN.{length, take, drop, length-append, length-drop, drop-of-length-le}
-use lib.Seq.{drop-drop, length-take-le}
+use lib.Seq.{drop-drop, take-all, length-take-le}
 use borrow.Author.Tests.{le-leb, lt-leb, eqb-true, eqb-false, leb-true, leb-false}
 use Rattle.lists.specs.Lists.{over}
 use Rattle.lists.proofs.Laws.Bools.{split}
 use Rattle.lists.proofs.Laws.Parts.{length-over}
 use Rattle.rules.specs.Store.{Store}
-use Rattle.session_text.specs.Lines.{beforeEnd, lineEnd}
+use Rattle.session_text.specs.Lines.{sizeIn, beforeEnd, lineEnd}
 use Rattle.session_text.proofs.Laws.Lines.{end-past, end-within, end-none, end-here, end-later}
 use Rattle.lists.proofs.Laws.Over.{over-nil, over-append, over-tail}
 use Rattle.replay.specs.Replay.{afterLine, answerTo, afterLines, answersTo}
@@ -125,6 +125,27 @@ module _ (numbers out input : List ℕ) (st : Store) where
   written-within = let f = answered-fits room (linesIn input) st in split (leb numbersMax (length numbers))
       (λ t. rw t (rw t at f)) (λ n. rw n (let g = rw n at f in omega arith))
 
+-- ---- the part of the output from index w on
+
+module _ (out : List ℕ) (w : ℕ) where
+  pub tail-all : take (length out - w) (drop w out) ≡ drop w out
+  tail-all = take-all (length out - w) (drop w out) (omega (arith, length-drop w out))
+
+  pub tail-whole : (o : List ℕ) → take w out ++ (o ++ drop (length out - w) (drop w out)) ≡ take w out ++ o
+  tail-whole o = rw (drop-of-length-le (drop w out) {i = length out - w} (omega (arith, length-drop w out)),
+    append-nil o)
+
+  over-rest : (xs : List ℕ) → w ≤ length out → take w out ++ over 0 xs (drop w out) ≡ over w xs out
+  over-rest xs h = sym (tail-whole (over 0 xs (drop w out))) ∙ (rw tail-all at (over-tail w xs out h))
+
+pub size-fits : (said out : List ℕ) (w size : ℕ) → size ≡ sizeIn said (take (length out - w) (drop w out))
+    → size ≤ length out - w
+size-fits said out w size e = let l = take (length out - w) (drop w out) in
+    let n : length l ≡ length out - w = rw (tail-all out w) (length-drop w out) in
+    split (leb (length said) (length l))
+      (λ t. omega (arith, rw t at e, leb-true (length said) (length l) t, n))
+      (λ f. omega (arith, rw f at e))
+
 -- ---- what is left to answer from byte i on, at index w of the output
 
 module _ (input start first : List ℕ) (before : Store) where
@@ -207,11 +228,11 @@ module _ (input start first : List ℕ) (before : Store) where
       -- what answering it in the part of the output from w on left
       module _ (o p : List ℕ) (after : Store) (size : ℕ) where
         abbrev pub whole : List ℕ
-        whole = take w out ++ (o ++ drop (length out - w) (drop w out))
+        whole = take w out ++ o
 
-        pub rest-made : Said line numbers (take (length out - w) (drop w out)) st after size o p
+        pub rest-made : Said line numbers (drop w out) st after size o p
             → Rest p whole after (e + 1) (w + size) × ((w + size ≤ length whole) × (length whole ≡ length out))
         rest-made s = let is-size = s .1 .0 in
-            let is-whole : whole ≡ over w answer out = rw (s .1 .1 .0) (over-tail w answer out (omega (arith, fits))) in
+            let is-whole : whole ≡ over w answer out = rw (s .1 .1 .0) (over-rest out w answer (omega (arith, fits))) in
             let n = ap length is-whole ∙ length-over w answer out fits in
             (rw (s .1 .1 .1, is-whole, s .0, is-size) rest-next, (omega (arith, n, fits, is-size), n))
