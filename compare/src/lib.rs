@@ -9,6 +9,7 @@ use model::store::{Manager, Store};
 use model::txn::{RoTable, RwTable, RwTxn};
 use model::visible::Reader;
 use model::{DEPS, TXNS};
+use std::hint::black_box;
 
 /// A load's record: `RwTxn` of crate rules. `deps` says how many it has.
 #[repr(C)]
@@ -60,21 +61,45 @@ impl Books {
     }
 }
 
-/// What a call answers as numbers, the part in force of a purge, and the books after it: `Replied` of crate exports.
+/// The books after a call, what it answers as numbers, and the part in force of a purge: `Replied` of crate exports.
 #[repr(C)]
 #[derive(Clone, Copy, Debug, PartialEq, Eq)]
 pub struct Reply {
+    pub books: Books,
     pub number: u64,
     pub value: u64,
     pub second: u64,
     pub from: usize,
     pub count: usize,
-    pub books: Books,
+}
+
+/// What a scan answers as numbers: `Seen` of crate exports.
+#[repr(C)]
+#[derive(Clone, Copy, Debug, PartialEq, Eq)]
+pub struct Seen {
+    pub number: u64,
+    pub value: u64,
+    pub second: u64,
 }
 
 #[allow(improper_ctypes)]
 extern "C" {
-    fn nizgulk_call(
+    fn nizgulk_create(
+        state: Books,
+        entries: *const Entry,
+        entries_len: usize,
+        rows: *const u64,
+        rows_len: usize,
+        start: u64,
+    ) -> Reply;
+    fn nizgulk_begin(
+        state: Books,
+        entries: *const Entry,
+        entries_len: usize,
+        rows: *const u64,
+        rows_len: usize,
+    ) -> Reply;
+    fn nizgulk_append(
         state: Books,
         entries: *mut Entry,
         entries_len: usize,
@@ -82,34 +107,88 @@ extern "C" {
         rows_len: usize,
         batch: *const u64,
         batch_len: usize,
+        txn: u64,
+        p: u64,
+    ) -> Reply;
+    fn nizgulk_clear(
+        state: Books,
+        entries: *mut Entry,
+        entries_len: usize,
+        rows: *mut u64,
+        rows_len: usize,
+        txn: u64,
+        p: u64,
+    ) -> Reply;
+    fn nizgulk_commit(
+        state: Books,
+        entries: *const Entry,
+        entries_len: usize,
+        rows: *const u64,
+        rows_len: usize,
+        txn: u64,
+    ) -> Reply;
+    fn nizgulk_roll_back(
+        state: Books,
+        entries: *mut Entry,
+        entries_len: usize,
+        rows: *mut u64,
+        rows_len: usize,
+        txn: u64,
+    ) -> Reply;
+    fn nizgulk_begin_ro(
+        state: Books,
+        entries: *const Entry,
+        entries_len: usize,
+        rows: *const u64,
+        rows_len: usize,
+        epoch: u64,
+    ) -> Reply;
+    fn nizgulk_end_ro(
+        state: Books,
+        entries: *const Entry,
+        entries_len: usize,
+        rows: *const u64,
+        rows_len: usize,
+        ticket: u64,
+    ) -> Reply;
+    fn nizgulk_scan_rw(
+        state: Books,
+        entries: *const Entry,
+        entries_len: usize,
+        rows: *const u64,
+        rows_len: usize,
         bitmap: *mut u8,
         bitmap_len: usize,
-        kind: u64,
-        first: u64,
-        second: u64,
+        txn: u64,
+        p: u64,
+    ) -> Seen;
+    fn nizgulk_scan_ro(
+        state: Books,
+        entries: *const Entry,
+        entries_len: usize,
+        rows: *const u64,
+        rows_len: usize,
+        bitmap: *mut u8,
+        bitmap_len: usize,
+        ticket: u64,
+        p: u64,
+    ) -> Seen;
+    fn nizgulk_advance_lse(
+        state: Books,
+        entries: *const Entry,
+        entries_len: usize,
+        rows: *const u64,
+        rows_len: usize,
+        target: u64,
     ) -> Reply;
-}
-
-/// How many kinds of calls `nizgulk_call` knows, and what it answers to another.
-pub const KINDS: u64 = 12;
-pub const UNKNOWN: u64 = 255;
-
-/// The call's number in `nizgulk_call`, its two numbers, and its batch.
-fn numbered(call: &Call) -> (u64, u64, u64, &[u64]) {
-    match call {
-        Call::New { start } => (0, *start, 0, &[]),
-        Call::Begin => (1, 0, 0, &[]),
-        Call::Append { epoch, partition, rows } => (2, *epoch, *partition, rows),
-        Call::Clear { epoch, partition } => (3, *epoch, *partition, &[]),
-        Call::Commit { epoch } => (4, *epoch, 0, &[]),
-        Call::Rollback { epoch } => (5, *epoch, 0, &[]),
-        Call::Open { epoch } => (6, *epoch, 0, &[]),
-        Call::Close { ticket } => (7, *ticket, 0, &[]),
-        Call::Scan { reader: Reader::Rw(epoch), partition, .. } => (8, *epoch, *partition, &[]),
-        Call::Scan { reader: Reader::Ro(ticket), partition, .. } => (9, *ticket, *partition, &[]),
-        Call::MoveLse { target } => (10, *target, 0, &[]),
-        Call::Purge { partition } => (11, *partition, 0, &[]),
-    }
+    fn nizgulk_purge(
+        state: Books,
+        entries: *mut Entry,
+        entries_len: usize,
+        rows: *mut u64,
+        rows_len: usize,
+        p: u64,
+    ) -> Reply;
 }
 
 /// What the proved store is lent beside the books.
@@ -119,31 +198,58 @@ pub struct Lent<'a> {
     pub bitmap: &'a mut [u8],
 }
 
-/// Runs a call by its number, one that names none too: what is lent is changed in place, the books are in the reply.
-pub fn call_by_number(kind: u64, first: u64, second: u64, batch: &[u64], books: &Books, lent: Lent) -> Reply {
+/// Runs a scan on the proved store, which leaves the books.
+pub fn scan(reader: Reader, partition: u64, books: &Books, lent: Lent) -> Seen {
+    let (entries, entries_len) = (lent.entries.as_ptr(), lent.entries.len());
+    let (rows, rows_len) = (lent.rows.as_ptr(), lent.rows.len());
+    let (bitmap, len) = (lent.bitmap.as_mut_ptr(), lent.bitmap.len());
     // Safety: each pointer comes with the length of the slice it was taken from, and no two slices overlap.
     unsafe {
-        nizgulk_call(
-            *books,
-            lent.entries.as_mut_ptr(),
-            lent.entries.len(),
-            lent.rows.as_mut_ptr(),
-            lent.rows.len(),
-            batch.as_ptr(),
-            batch.len(),
-            lent.bitmap.as_mut_ptr(),
-            lent.bitmap.len(),
-            kind,
-            first,
-            second,
-        )
+        match reader {
+            Reader::Rw(txn) => {
+                nizgulk_scan_rw(*books, entries, entries_len, rows, rows_len, bitmap, len, txn, partition)
+            }
+            Reader::Ro(ticket) => {
+                nizgulk_scan_ro(*books, entries, entries_len, rows, rows_len, bitmap, len, ticket, partition)
+            }
+        }
     }
 }
 
-/// Runs the call on the proved store.
+/// Runs the call on the proved store: what is lent is changed in place, the books are in the reply.
 pub fn call(call: &Call, books: &Books, lent: Lent) -> Reply {
-    let (kind, first, second, batch) = numbered(call);
-    call_by_number(kind, first, second, batch, books, lent)
+    let (es, es_len) = (lent.entries.as_mut_ptr(), lent.entries.len());
+    let (rs, rs_len) = (lent.rows.as_mut_ptr(), lent.rows.len());
+    // Safety: each pointer comes with the length of the slice it was taken from, and no two slices overlap.
+    unsafe {
+        match call {
+            Call::New { start } => nizgulk_create(*books, es, es_len, rs, rs_len, *start),
+            Call::Begin => nizgulk_begin(*books, es, es_len, rs, rs_len),
+            Call::Append { epoch, partition, rows } => {
+                let (batch, len) = (rows.as_ptr(), rows.len());
+                nizgulk_append(*books, es, es_len, rs, rs_len, batch, len, *epoch, *partition)
+            }
+            Call::Clear { epoch, partition } => nizgulk_clear(*books, es, es_len, rs, rs_len, *epoch, *partition),
+            Call::Commit { epoch } => nizgulk_commit(*books, es, es_len, rs, rs_len, *epoch),
+            Call::Rollback { epoch } => nizgulk_roll_back(*books, es, es_len, rs, rs_len, *epoch),
+            Call::Open { epoch } => nizgulk_begin_ro(*books, es, es_len, rs, rs_len, *epoch),
+            Call::Close { ticket } => nizgulk_end_ro(*books, es, es_len, rs, rs_len, *ticket),
+            Call::Scan { reader, partition, .. } => {
+                let Seen { number, value, second } = scan(*reader, *partition, books, lent);
+                Reply { books: *books, number, value, second, from: 0, count: 0 }
+            }
+            Call::MoveLse { target } => nizgulk_advance_lse(*books, es, es_len, rs, rs_len, *target),
+            Call::Purge { partition } => nizgulk_purge(*books, es, es_len, rs, rs_len, *partition),
+        }
+    }
+}
+
+/// Runs the call as one that measures it does: of the reply only the number is kept, and a scan makes no reply.
+pub fn measured(one: &Call, books: &Books, lent: Lent) -> u64 {
+    match one {
+        Call::Scan { reader, partition, .. } => black_box(scan(*reader, *partition, books, lent)).number,
+        _ => black_box(&call(one, books, lent)).number,
+    }
 }
 
 /// What a store of the model's lends, with a bitmap.

@@ -3,7 +3,7 @@
 //! input, both built for release, one thread, caches warm; each figure is the best of nine runs, the cost of reading the
 //! clock included. The ratio is how many times as fast as the model the proved store is; the last line is the worst.
 
-use compare::{by_library, call, lent_by, numbers, told, Books};
+use compare::{by_library, lent_by, measured, numbers, told, Books};
 use model::call::Call;
 use model::histories::{profile, Lines};
 use model::store::Store;
@@ -102,8 +102,7 @@ fn timed(store: &Store, one: &Call) -> (f64, f64) {
     assert_eq!(told(&by_library(one, &mut proved, &mut bitmap)), numbers(&one.run(&mut plain, &mut bitmap)));
     assert_eq!((numbers(&one.run(&mut store.clone(), &mut bitmap)).0, proved == plain), (0, true), "{one:?}");
     let by_proof = best(store, undone, |used| {
-        let reply = call(black_box(one), black_box(&books), lent_by(used, &mut bitmap));
-        black_box(&reply);
+        black_box(measured(black_box(one), black_box(&books), lent_by(used, &mut bitmap)));
     });
     let by_model = best(store, undone, |used| {
         black_box(numbers(&black_box(one).run(used, &mut bitmap)));

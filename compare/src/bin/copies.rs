@@ -1,7 +1,7 @@
 //! Counts what one accepted call of the static library copies and clears: `memcpy` and `memset` stand here in place of the
 //! C library's, and count. On an empty store, where all that is copied is the books and what is made of them.
 
-use compare::{call, lent_by, told, Books};
+use compare::{lent_by, measured, Books};
 use model::call::Call;
 use model::store::Store;
 use model::visible::Reader;
@@ -66,9 +66,9 @@ fn main() {
         BYTES.store(0, Relaxed);
         LARGE_ONES.store(0, Relaxed);
         COUNTING.store(true, Relaxed);
-        let reply = call(one, &books, lent_by(&mut used, &mut bitmap));
+        let number = measured(one, &books, lent_by(&mut used, &mut bitmap));
         COUNTING.store(false, Relaxed);
-        assert_eq!(told(&reply).0, 0, "{name}");
+        assert_eq!(number, 0, "{name}");
         println!("{name:<15} {:>7} bytes, {} copies of {LARGE} or more", BYTES.load(Relaxed), LARGE_ONES.load(Relaxed));
     }
 }

@@ -1,9 +1,9 @@
 //! Runs the proved store's calls, by its static library, beside the model: on stores that histories made, on random
 //! well-formed stores that no history made, on stores spoilt in one field, and on areas of wrong lengths. Compared are the
 //! number, the values, the part that a purge answers with, and every word of the books, the areas and the bitmap at the
-//! end of each call. A number that names no call must be answered 255, and nothing may change.
+//! end of each call.
 
-use compare::{by_library, call_by_number, lent_by, live_part, numbers, told, Books, KINDS, UNKNOWN};
+use compare::{by_library, live_part, numbers, told};
 use model::call::Call;
 use model::check::difference;
 use model::histories::{Calls, PROFILES};
@@ -52,32 +52,6 @@ fn differs(one: &Call, store: &mut Store, tally: &mut Tally) -> Result<(), Strin
     Ok(())
 }
 
-/// A number that names no call, with any arguments.
-fn unknown_differs(rng: &mut Rng, store: &Store) -> Result<(), String> {
-    let kind = match rng.below(3) {
-        0 => KINDS,
-        1 => u64::MAX,
-        _ => KINDS + rng.below(1000),
-    };
-    let mut proved = store.clone();
-    let lent = [0xa5; 64];
-    let mut bitmap = lent;
-    let books = Books::of(&store.manager);
-    let (first, second) = (rng.below(10), rng.below(10));
-    let reply = call_by_number(kind, first, second, &[1, 2, 3], &books, lent_by(&mut proved, &mut bitmap));
-    proved.manager = reply.books.manager();
-    if (told(&reply), reply.from, reply.count) != ((UNKNOWN, 0, 0), 0, 0) {
-        return Err(format!("kind {kind} answers {:?}", told(&reply)));
-    }
-    if proved != *store {
-        return Err(difference(&proved, store));
-    }
-    if bitmap != lent {
-        return Err(format!("kind {kind} writes the bitmap"));
-    }
-    Ok(())
-}
-
 /// A store for this round: what a history made, or any well-formed one, or one that is spoilt or of a wrong length.
 fn store_for(round: u64, calls: &mut Calls) -> Store {
     let rng = &mut calls.rng;
@@ -115,10 +89,6 @@ fn main() -> ExitCode {
         let mut store = store_for(round, &mut calls);
         // Calls are drawn for a well-formed store.
         let other = random_store(&mut calls.rng);
-        if let Err(what) = unknown_differs(&mut calls.rng, &store) {
-            println!("round {round}, {}: {what}", profile.name);
-            return ExitCode::FAILURE;
-        }
         for _ in 0..CALLS {
             let next = calls.next_call(if well_formed(&store) { &store } else { &other });
             if let Err(what) = differs(&next, &mut store, &mut tally) {
@@ -136,7 +106,7 @@ fn main() -> ExitCode {
         return ExitCode::FAILURE;
     }
     println!(
-        "library: {} calls on {rounds} stores agree; by number {:?}; {} rows in parts; {rounds} unknown calls",
+        "library: {} calls on {rounds} stores agree; by number {:?}; {} rows in parts",
         rounds * CALLS,
         tally.numbers,
         tally.part_rows

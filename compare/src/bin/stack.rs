@@ -2,7 +2,7 @@
 //! runs, and the deepest word that it changed is looked for. Every kind of call on stores that histories made, on random
 //! and on spoilt ones. The figure has the copy of the books that the caller passes, and the reply.
 
-use compare::{call, lent_by, Books, KINDS};
+use compare::{call, lent_by, Books};
 use model::call::Call;
 use model::histories::{Calls, PROFILES};
 use model::sound::well_formed;
@@ -15,6 +15,8 @@ use std::process::ExitCode;
 
 const ROUNDS: u64 = 400;
 const CALLS: u64 = 12;
+/// How many kinds of calls there are.
+const KINDS: usize = 12;
 /// Words that are painted: 2 MiB, of a thread's stack of 16.
 const WORDS: usize = 1 << 18;
 const STACK: usize = 16 << 20;
@@ -70,8 +72,8 @@ fn kind(one: &Call) -> usize {
 }
 
 /// The greatest use of each kind, and how often it was accepted.
-fn greatest() -> [(usize, u64); KINDS as usize] {
-    let mut all = [(0, 0); KINDS as usize];
+fn greatest() -> [(usize, u64); KINDS] {
+    let mut all = [(0, 0); KINDS];
     for round in 0..ROUNDS {
         let mut calls = Calls::new(round, PROFILES[(round / 3) as usize % PROFILES.len()]);
         let mut store = match round % 3 {

@@ -1,4 +1,4 @@
--- `exports::numbered::place_in` meets its contract, by the number and by whether there is such a partition.
+-- `exports::words::place_in` meets its contract, by the number and by whether there is such a partition.
 -- Assumes nothing.
 use mathlib.Core.Path.{_≡_}
 use native.Mathlib.Omega.{arith}
@@ -7,8 +7,8 @@ use borrow.Author.Needs.{needs}
 use borrow.Author.Tests.{ne-eqb}
 use Rattle.rules.specs.Store.{noPartition}
 use Rattle.partition.proofs.Laws.Places.{partitions-8}
-use Rattle.exports.proofs.numbered.place_in.Statement.{statement}
-use Rattle.exports.proofs.numbered.place_in.Tie as tie
+use Rattle.exports.proofs.words.place_in.Statement.{statement}
+use Rattle.exports.proofs.words.place_in.Tie as tie
 
 returns : tie.Need-returns
 returns c = rw (ne-eqb (c .before .args .number) 0 (c .if1 .taken))
