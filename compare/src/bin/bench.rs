@@ -1,7 +1,7 @@
 //! Times the proved store beside the model: each call, by the static library, on an empty store, on one that is all but
 //! full with short entries, and on one with long entries; and the session program. All calls are accepted ones. The same
-//! input, both built for release, one thread, caches warm; each figure is the best of nine runs, the cost of reading the
-//! clock included. The ratio is how many times as fast as the model the proved store is; the last line is the worst.
+//! input, both built for release, one thread, caches warm; each figure is the best of fifty runs, nine of the session, that
+//! of the model in turn with that of the proved one, the cost of reading the clock included. The ratio is how many times as fast as the model the proved store is; the last line is the worst.
 
 use compare::{by_library, lent_by, measured, numbers, told, Books};
 use model::call::Call;
@@ -13,8 +13,9 @@ use std::io::Write;
 use std::process::{Command, Stdio};
 use std::time::{Duration, Instant};
 
-const RUNS: usize = 9;
-const TURNS: u32 = 2_000;
+const RUNS: usize = 50;
+const TURNS: u32 = 400;
+const SESSIONS: usize = 9;
 const LINES: usize = 200_000;
 
 /// An open load and an open page on it.
@@ -71,42 +72,41 @@ fn laden(count: u64, rows: usize) -> Store {
     store
 }
 
-/// The least mean of a call in nanoseconds, each on the state as it was: what the call before wrote is undone, untimed.
-fn best<S: Clone>(state: &S, mut undo: impl FnMut(&mut S, &S), mut call: impl FnMut(&mut S)) -> f64 {
-    let mut used = state.clone();
-    let mut least = f64::MAX;
-    for _ in 0..RUNS {
-        let mut spent = Duration::ZERO;
-        for _ in 0..TURNS {
-            undo(&mut used, state);
-            let start = Instant::now();
-            call(&mut used);
-            spent += start.elapsed();
-        }
-        least = least.min(spent.as_nanos() as f64 / f64::from(TURNS));
-    }
-    least
-}
-
 fn undone(used: &mut Store, store: &Store) {
     used.manager = store.manager;
     used.rows.copy_from_slice(&store.rows);
     used.entries.copy_from_slice(&store.entries);
 }
 
-/// The proved call and the model's, in nanoseconds. Both accept it and leave the same store.
+/// The mean of a call in nanoseconds, each on the store as it was: what the call before wrote is undone, untimed.
+fn mean(used: &mut Store, store: &Store, mut call: impl FnMut(&mut Store)) -> f64 {
+    let mut spent = Duration::ZERO;
+    for _ in 0..TURNS {
+        undone(used, store);
+        let start = Instant::now();
+        call(used);
+        spent += start.elapsed();
+    }
+    spent.as_nanos() as f64 / f64::from(TURNS)
+}
+
+/// The proved call and the model's, in nanoseconds: the least of their means, taken in turn so that both meet the same
+/// moments of the machine. Both accept the call and leave the same store.
 fn timed(store: &Store, one: &Call) -> (f64, f64) {
     let books = Books::of(&store.manager);
     let mut bitmap = one.lent_bitmap();
     let (mut proved, mut plain) = (store.clone(), store.clone());
     assert_eq!(told(&by_library(one, &mut proved, &mut bitmap)), numbers(&one.run(&mut plain, &mut bitmap)));
     assert_eq!((numbers(&one.run(&mut store.clone(), &mut bitmap)).0, proved == plain), (0, true), "{one:?}");
-    let by_proof = best(store, undone, |used| {
-        black_box(measured(black_box(one), black_box(&books), lent_by(used, &mut bitmap)));
-    });
-    let by_model = best(store, undone, |used| {
-        black_box(numbers(&black_box(one).run(used, &mut bitmap)));
-    });
+    let (mut by_proof, mut by_model) = (f64::MAX, f64::MAX);
+    for _ in 0..RUNS {
+        by_proof = by_proof.min(mean(&mut proved, store, |used| {
+            black_box(measured(black_box(one), black_box(&books), lent_by(used, &mut bitmap)));
+        }));
+        by_model = by_model.min(mean(&mut plain, store, |used| {
+            black_box(numbers(&black_box(one).run(used, &mut bitmap)));
+        }));
+    }
     (by_proof, by_model)
 }
 
@@ -142,17 +142,13 @@ fn calls(name: &str, on: &Store, list: &[Call], worst: &mut Worst) {
 
 /// Milliseconds that a program takes for these lines.
 fn session(program: &str, input: &[u8]) -> std::io::Result<f64> {
-    let mut least = f64::MAX;
-    for _ in 0..RUNS {
-        let start = Instant::now();
-        let mut child = Command::new(program).stdin(Stdio::piped()).stdout(Stdio::null()).spawn()?;
-        if let Some(mut stdin) = child.stdin.take() {
-            stdin.write_all(input)?;
-        }
-        child.wait()?;
-        least = least.min(start.elapsed().as_secs_f64() * 1e3);
+    let start = Instant::now();
+    let mut child = Command::new(program).stdin(Stdio::piped()).stdout(Stdio::null()).spawn()?;
+    if let Some(mut stdin) = child.stdin.take() {
+        stdin.write_all(input)?;
     }
-    Ok(least)
+    child.wait()?;
+    Ok(start.elapsed().as_secs_f64() * 1e3)
 }
 
 fn main() -> std::io::Result<()> {
@@ -190,7 +186,11 @@ fn main() -> std::io::Result<()> {
     }
     let name = "the session program";
     head(name);
-    let (proved, model) = (session("target/bin/session", &input)?, session("target/cargo/release/session", &input)?);
+    let (mut proved, mut model) = (f64::MAX, f64::MAX);
+    for _ in 0..SESSIONS {
+        proved = proved.min(session("target/bin/session", &input)?);
+        model = model.min(session("target/cargo/release/session", &input)?);
+    }
     worst.line(name, &format!("{LINES} lines"), "ms", proved, model);
     println!("worst ratio {:.2}: {}", worst.ratio, worst.what);
     Ok(())
