@@ -4,13 +4,15 @@
 use lent::Table;
 use libc::STDIN_FILENO;
 use libc::STDOUT_FILENO;
+use line::limits::ANSWER_MAX;
+use line::limits::BITMAP_MAX;
+use line::limits::NUMBERS_MAX;
 use places::in_use;
-use replay::limits::ANSWER_MAX;
-use replay::limits::NUMBERS_MAX;
 use reply::ReplyWords;
 use reply::VALUES_MAX;
 use reply::reply_of;
 use rules::Command;
+use rules::Kept;
 use rules::ManagerCall;
 use rules::Reader;
 use rules::State;
@@ -254,7 +256,7 @@ fn rows_of(letter: u8, a: u64) -> usize {
 }
 
 // How many rows its batch has.
-fn batch_of(letter: u8, c: u64) -> usize {
+fn batch_size(letter: u8, c: u64) -> usize {
     if letter == b'f' { c as usize } else { 0 }
 }
 
@@ -271,7 +273,7 @@ fn calls(
 ) -> Said {
     let times = times_of(letter, a, c);
     let n = rows_of(letter, a);
-    let size = batch_of(letter, c);
+    let size = batch_size(letter, c);
     if times == 0 || rows.len() < n || NUMBERS_MAX < size {
         return silent(state, table);
     }
@@ -339,6 +341,34 @@ fn has_numbers(line: &[u8], numbers: &mut [u64]) -> bool {
     }
 }
 
+// What a line of a session is answered, its numbers read; a scan is lent a bit for every row.
+fn answer(
+    state: State,
+    table: Table,
+    rows: &mut [u64],
+    numbers: &mut [u64],
+    parsed: Parsed,
+    out: &mut [u8],
+) -> Said {
+    let mut bitmap = [0u8; BITMAP_MAX];
+    let command = line::turn::command_of(parsed);
+    let batch = line::turn::batch_of(numbers, parsed);
+    let done = dispatch::turn(state, table, rows, batch, &mut bitmap, command);
+    let answer = done.answer;
+    let s = done.state;
+    let t = done.table;
+    let kept = Kept {
+        state: s,
+        answer: answer,
+    };
+    let size = line::turn::say(rows, numbers, out, bitmap, parsed, kept);
+    Said {
+        state: s,
+        table: t,
+        written: size,
+    }
+}
+
 // A line of a session, with its end.
 fn session_line(
     state: State,
@@ -351,14 +381,12 @@ fn session_line(
     if rows.len() < ROWS_LENT {
         return silent(state, table);
     }
-    let done = replay::replay(state, table, line, &mut rows[0..ROWS_LENT], numbers, out);
-    let s = done.state;
-    let t = done.table;
-    Said {
-        state: s,
-        table: t,
-        written: done.written,
+    if line.len() == 0 {
+        return silent(state, table);
     }
+    let end = line.len() - 1;
+    let parsed = session_text::parse(&line[0..end], numbers);
+    answer(state, table, &mut rows[0..ROWS_LENT], numbers, parsed, out)
 }
 
 // One line of the cases, with its end. Of a line of a small letter the letter was taken, and A put in its place.

@@ -1,10 +1,6 @@
-pub mod Replay
-pub mod Rooms
-pub mod Shown
 pub mod Line
 pub mod Lines
 pub mod Turn
 pub mod Chunks
 pub mod Flushes
 pub mod Start
-pub mod Rest

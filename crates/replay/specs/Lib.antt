@@ -1,7 +1,4 @@
-pub mod Replay
-pub mod Rooms
 pub mod Lines
 pub mod Chunks
 pub mod Start
-pub mod Shown
-pub mod Turn
+pub mod Replayed

@@ -1,18 +1,16 @@
 -- The lines of a buffer of input, and those that are answered while there is room. 01 "A session";
 -- docs/DECISIONS.md D5.
--- In order: linesIn, bytesOf, answered, replayed; what is left in the buffer of numbers; what is kept of a line
--- that is yet to come. Laws: proofs/Laws/Lines.antt, proofs/Laws/Rest.antt.
+-- In order: linesIn, bytesOf, answered, replayed; what is left in the buffer of numbers.
+-- Laws: proofs/Laws/Lines.antt.
 -- Assumes nothing.
 use mathlib.Core.Bool.{cond}
 use mathlib.Core.List.{List, [], _∷_}
-use Prim.Native.Nat.{ℕ, suc, _+_, _-_}
-use lib.ListN.{length, take}
+use Prim.Native.Nat.{ℕ, _+_, _-_}
+use lib.ListN.{length}
 use lib.Dec.{leb, eqb}
-use Rattle.lists.specs.Lists.{part}
 use Rattle.rules.specs.Store.{Store}
-use Rattle.session_text.specs.Grammar.{lineMax}
-use Rattle.replay.specs.Replay.{afterLine, answerTo}
-use Rattle.replay.specs.Rooms.{numbersMax, answerMax, heldAfter}
+use Rattle.line.specs.Session.{afterLine, answerTo}
+use Rattle.line.specs.Rooms.{numbersMax, answerMax, heldAfter}
 
 -- ---- whole lines, each without its end: what stands after the last line end is none
 
@@ -45,12 +43,3 @@ replayed numbers out input st = answered (cond (leb numbersMax (length numbers))
 unfoldable pub heldLines : List (List ℕ) → Store → List ℕ → List ℕ
 heldLines [] st numbers = numbers
 heldLines (l ∷ ls) st numbers = heldLines ls (afterLine l st) (heldAfter l st numbers)
-
--- ---- the front of a line that is yet to come: one byte more than a line may have makes it `?`
-
-unfoldable pub keptMax : ℕ
-keptMax = suc lineMax
-
--- bytes `from` to `to` of a buffer
-abbrev pub kept : List ℕ → ℕ → ℕ → List ℕ
-kept buffer from to = take keptMax (part from (to - from) buffer)

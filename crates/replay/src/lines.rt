@@ -1,17 +1,17 @@
 // A buffer of lines, one answered after the other. 01 "A session".
-use crate::turn::Cursor;
-use crate::turn::answer_line;
-use crate::turn::batch_of;
-use crate::turn::blank_bits;
-use crate::turn::command_of;
-use crate::turn::has_line;
-use crate::turn::read_line;
-use crate::turn::room_for;
-use crate::turn::seek;
-use crate::turn::state_of;
 use dispatch::dispatch;
 use dispatch::entries_in;
 use lent::Table;
+use line::turn::Cursor;
+use line::turn::answer_line;
+use line::turn::batch_of;
+use line::turn::blank_bits;
+use line::turn::command_of;
+use line::turn::has_line;
+use line::turn::read_line;
+use line::turn::room_for;
+use line::turn::seek;
+use line::turn::state_of;
 use rules::Entry;
 use rules::State;
 use rules::limits::ENTRIES_LENT;
@@ -19,8 +19,8 @@ ghost use mathlib.Core.Path.{_≡_};
 ghost use lib.ListN.{length};
 ghost use Rattle.lists.specs.Lists.{over};
 ghost use Rattle.store.specs.Kept.{storeOf};
-ghost use Rattle.replay.specs.Replay.{afterLines, answersTo};
-ghost use Rattle.replay.specs.Turn.{replayedOf};
+ghost use Rattle.line.specs.Session.{afterLines, answersTo};
+ghost use Rattle.replay.specs.Replayed.{replayedOf};
 ghost use Rattle.replay.specs.Lines.{replayed, bytesOf, heldLines};
 
 // The store after the lines, how many bytes of input they were, and how many bytes answer them.

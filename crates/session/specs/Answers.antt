@@ -6,8 +6,8 @@ use mathlib.Core.List.{List}
 use Prim.Native.Nat.{ℕ, _≤_}
 use lib.ListN.{length}
 use Rattle.rules.specs.Store.{Store}
-use Rattle.replay.specs.Replay.{afterLines}
-use Rattle.replay.specs.Rooms.{numbersMax, answerMax}
+use Rattle.line.specs.Session.{afterLines}
+use Rattle.line.specs.Rooms.{numbersMax, answerMax}
 use Rattle.replay.specs.Lines.{linesIn, bytesOf}
 
 -- the buffers for numbers and for answers have room for every line

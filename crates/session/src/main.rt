@@ -8,7 +8,7 @@ ghost use Rattle.session.specs.Answers.{Roomy, AllAnswered};
 use lent::Table;
 use libc::STDIN_FILENO;
 use libc::STDOUT_FILENO;
-use replay::limits::NUMBERS_MAX;
+use line::limits::NUMBERS_MAX;
 use rules::State;
 use rules::limits::ROWS_LENT;
 
@@ -131,7 +131,7 @@ fn serve(
         let t = a.table;
         state = s;
         table = t;
-        held = replay::keep_rest(input, a.used, end);
+        held = line::rest::keep_rest(input, a.used, end);
     }
 }
 

@@ -16,10 +16,11 @@ use Rattle.rules.specs.Store.{Store}
 use Rattle.session_text.specs.Grammar.{lineMax}
 use Rattle.session_text.specs.Print.{question}
 use Rattle.session_text.proofs.Laws.Calls.{long-line}
-use Rattle.replay.specs.Replay.{afterLine, answerTo, afterLines, answersTo}
-use Rattle.replay.specs.Lines.{onLine, linesIn, bytesOf, keptMax}
+use Rattle.line.specs.Session.{afterLine, answerTo, afterLines, answersTo}
+use Rattle.line.specs.Rest.{keptMax}
+use Rattle.replay.specs.Lines.{onLine, linesIn, bytesOf}
 use Rattle.replay.specs.Chunks.{restIn, lastLine, sessionLines, fed}
-use Rattle.replay.proofs.Laws.Replay.{answers-append}
+use Rattle.line.proofs.Laws.Session.{answers-append}
 use Rattle.replay.proofs.Laws.Lines.{bytes-lines, bytes-append}
 
 -- ---- an input in two parts: after the whole lines of the first, its rest goes before the second

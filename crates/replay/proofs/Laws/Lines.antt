@@ -18,10 +18,11 @@ use Rattle.rules.specs.Store.{Store}
 use Rattle.session_text.specs.Lines.{sizeIn, beforeEnd, lineEnd}
 use Rattle.session_text.proofs.Laws.Lines.{end-past, end-within, end-none, end-here, end-later}
 use Rattle.lists.proofs.Laws.Over.{over-nil, over-append, over-tail}
-use Rattle.replay.specs.Replay.{afterLine, answerTo, afterLines, answersTo}
-use Rattle.replay.specs.Rooms.{numbersMax, answerMax, heldAfter}
+use Rattle.line.specs.Session.{afterLine, answerTo, afterLines, answersTo}
+use Rattle.line.specs.Rooms.{numbersMax, answerMax, heldAfter}
 use Rattle.replay.specs.Lines.{onLine, linesIn, bytesOf, answered, replayed, heldLines}
-use Rattle.replay.proofs.Laws.Rooms.{answer-few}
+use Rattle.line.proofs.Laws.Rooms.{answer-few}
+use Rattle.line.proofs.Laws.Turn.{tail-all, tail-whole}
 use Rattle.replay.proofs.Laws.Line.{Said}
 
 -- ---- the first line: the bytes before the first line end
@@ -128,23 +129,8 @@ module _ (numbers out input : List ℕ) (st : Store) where
 -- ---- the part of the output from index w on
 
 module _ (out : List ℕ) (w : ℕ) where
-  pub tail-all : take (length out - w) (drop w out) ≡ drop w out
-  tail-all = take-all (length out - w) (drop w out) (omega (arith, length-drop w out))
-
-  pub tail-whole : (o : List ℕ) → take w out ++ (o ++ drop (length out - w) (drop w out)) ≡ take w out ++ o
-  tail-whole o = rw (drop-of-length-le (drop w out) {i = length out - w} (omega (arith, length-drop w out)),
-    append-nil o)
-
   over-rest : (xs : List ℕ) → w ≤ length out → take w out ++ over 0 xs (drop w out) ≡ over w xs out
-  over-rest xs h = sym (tail-whole (over 0 xs (drop w out))) ∙ (rw tail-all at (over-tail w xs out h))
-
-pub size-fits : (said out : List ℕ) (w size : ℕ) → size ≡ sizeIn said (take (length out - w) (drop w out))
-    → size ≤ length out - w
-size-fits said out w size e = let l = take (length out - w) (drop w out) in
-    let n : length l ≡ length out - w = rw (tail-all out w) (length-drop w out) in
-    split (leb (length said) (length l))
-      (λ t. omega (arith, rw t at e, leb-true (length said) (length l) t, n))
-      (λ f. omega (arith, rw f at e))
+  over-rest xs h = sym (tail-whole out w (over 0 xs (drop w out))) ∙ (rw (tail-all out w) at (over-tail w xs out h))
 
 -- ---- what is left to answer from byte i on, at index w of the output
 

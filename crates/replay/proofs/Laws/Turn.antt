@@ -1,5 +1,5 @@
--- Laws of one turn of the loop over lines. Definitions: specs/Turn.antt.
--- In order: the rows of an append; a line as the turn takes it; the loop, with what holds at each turn, at its start,
+-- Laws of one turn of the loop over lines. Definitions: line/specs/Turn.antt.
+-- In order: a line as the turn takes it; the loop, with what holds at each turn, at its start,
 -- from one turn to the next, and at its end.
 -- Assumes nothing.
 use mathlib.Core.Path.{_≡_, refl, sym, _∙_, ap}
@@ -27,39 +27,15 @@ use Rattle.store.specs.Kept.{storeOf}
 use Rattle.rules.specs.declared.Kept.{Kept}
 use Rattle.dispatch.specs.Dispatch.{Did}
 use Rattle.dispatch.proofs.Nothing.{purge-none}
-use Rattle.replay.specs.Replay.{bits}
-use Rattle.replay.specs.Rooms.{numbersMax, answerMax}
+use Rattle.line.specs.Session.{bits}
+use Rattle.line.specs.Rooms.{numbersMax, answerMax}
 use Rattle.replay.specs.Lines.{linesIn}
-use Rattle.replay.specs.Turn.{roomFor, cursorAt, cursorAfter, lineAt, parsedIn, wordsIn, commandIn, rowsIn}
-use Rattle.replay.specs.Turn.{saidIn, shownOf}
-use Rattle.replay.specs.declared.turn.Cursor.{Cursor}
+use Rattle.line.specs.Turn.{roomFor, cursorAt, cursorAfter, lineAt, parsedIn, wordsIn, commandIn, rowsIn}
+use Rattle.line.specs.Turn.{saidIn, shownOf}
+use Rattle.line.specs.declared.turn.Cursor.{Cursor}
 use Rattle.replay.proofs.Laws.Line.{Said, line-called, line-bad}
 use Rattle.replay.proofs.Laws.Lines.{lines-some, Rest, rest-start, Done, done-short, done-none, done-full}
 use Rattle.replay.proofs.Laws.Lines.{rest-made}
-
--- ---- the rows of an append
-
-cut-least : (r m : ℕ) (l : List ℕ) → m ≡ min r (length l) → take m l ≡ take r l
-cut-least r m l e = split (leb r (length l))
-    (λ t. let h = leb-true r (length l) t in let q : m ≡ r = omega arith in rw q)
-    (λ f. let h = leb-false r (length l) f in take-all m l (omega arith) ∙ sym (take-all r l (omega arith)))
-
-pub batch-part : (l : List ℕ) (r from m : ℕ) → from ≡ min 2 (length l) → m ≡ min r (length l - from)
-    → take (from + m - from) (drop from l) ≡ part 2 r l
-batch-part l r from m e h = let k : from + m - from ≡ m = omega arith in
-    let n : length (drop from l) ≡ length l - from = length-drop from l in
-    let cut = cut-least r m (drop from l) (h ∙ ap (min r) (sym n)) in split (leb 2 (length l))
-    (λ t. let two : from ≡ 2 = e ∙ at-least (length l) (leb-true 2 (length l) t) in rw k (cut ∙ rw two))
-    (λ f. let short = leb-false 2 (length l) f in
-      let all : from ≡ length l = e ∙ at-most (length l) short in
-      rw k (cut ∙ rw (all, drop-of-length-le l {i = length l} (omega arith),
-        drop-of-length-le l {i = 2} (omega arith))))
-  where
-    at-least : (n : ℕ) → 2 ≤ n → min 2 n ≡ 2
-    at-least n h = omega arith
-
-    at-most : (n : ℕ) → n < 2 → min 2 n ≡ n
-    at-most n h = omega arith
 
 -- ---- a line, handed on as the command that it is, or as one that does nothing
 
