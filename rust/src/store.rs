@@ -13,12 +13,12 @@ use core::fmt;
 /// It has 60,152 bytes, and a call uses some 50 KB of stack more. [`Store::new`] hands one over by value, which a small
 /// stack may not bear. To place one elsewhere from the start:
 ///
-/// - in a static, by [`Store::BLANK`], whose words are all 0 and which is then made new in its place:
+/// - in a static, by [`Store::blank`], whose words are all 0 and which is then made new in its place:
 ///
 /// ```
 /// use nizgulk::{Epoch, Refusal, Store};
 /// use std::sync::Mutex;
-/// static STORE: Mutex<Store> = Mutex::new(Store::BLANK);
+/// static STORE: Mutex<Store> = Mutex::new(Store::blank());
 ///
 /// let mut store = STORE.lock().unwrap();
 /// assert_eq!(store.begin(), Err(Refusal::Unsound));
@@ -53,7 +53,9 @@ pub struct Purged<'a> {
 
 impl Store {
     /// A store whose words are all 0. It is unsound: every call but [`Store::create`] is refused by 5.
-    pub const BLANK: Store = Store { books: Books::BLANK, entries: [Entry::BLANK; ENTRIES_LENT], rows: [0; ROWS_LENT] };
+    pub const fn blank() -> Store {
+        Store { books: Books::BLANK, entries: [Entry::BLANK; ENTRIES_LENT], rows: [0; ROWS_LENT] }
+    }
 
     /// A store made new at an epoch, 1 to 2,147,483,647: that of the first read-write transaction (01: load).
     /// Refusal: 4.
@@ -66,7 +68,7 @@ impl Store {
     /// # Ok::<(), Refusal>(())
     /// ```
     pub fn new(start: Epoch) -> Result<Store, Refusal> {
-        let mut store = Store::BLANK;
+        let mut store = Store::blank();
         store.create(start)?;
         Ok(store)
     }
@@ -289,7 +291,7 @@ impl Store {
         raw::words(self)
     }
 
-    /// The store that these words are, in their place: a saved one, or zeros, which are [`Store::BLANK`].
+    /// The store that these words are, in their place: a saved one, or zeros, which are [`Store::blank`].
     ///
     /// ```
     /// use nizgulk::{limits::STORE_WORDS, Epoch, Store};

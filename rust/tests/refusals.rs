@@ -88,7 +88,7 @@ fn out_of_range_is_4() {
 
 #[test]
 fn unsound_is_5() {
-    refused(5, &mut Store::BLANK, Store::begin);
+    refused(5, &mut Store::blank(), Store::begin);
     let (store, load, page) = used();
     let (books, entries, rows) = store.into_parts();
     let spoilt: [fn(&mut Books); 5] = [
