@@ -157,12 +157,14 @@ extern "C" {
 
 /// Makes a store new at the epoch `start`, 1 to 2,147,483,647. It reads no word, and writes none but the books.
 /// Refusals, in this order: 5 (the lengths), 4.
+#[inline]
 pub fn create(books: &Books, entries: &[Entry], rows: &[u64], start: u64) -> Reply {
     // Safety: as said above.
     unsafe { nizgulk_create(*books, entries.as_ptr(), entries.len(), rows.as_ptr(), rows.len(), start) }
 }
 
 /// Begins a read-write transaction (01: load). Value: its epoch. Refusals, in this order: 5, 6, 7.
+#[inline]
 pub fn begin(books: &Books, entries: &[Entry], rows: &[u64]) -> Reply {
     // Safety: as said above.
     unsafe { nizgulk_begin(*books, entries.as_ptr(), entries.len(), rows.as_ptr(), rows.len()) }
@@ -170,6 +172,7 @@ pub fn begin(books: &Books, entries: &[Entry], rows: &[u64]) -> Reply {
 
 /// Adds the rows of `batch` to a partition (01: lot), all or none. Value: the rows it has then.
 /// Refusals, in this order: 5, 1, 2, 8, 9.
+#[inline]
 pub fn append(
     books: &Books,
     entries: &mut [Entry],
@@ -185,6 +188,7 @@ pub fn append(
 }
 
 /// Deletes a whole partition (01: clears a lot). Value: the entries it has then. Refusals, in this order: 5, 1, 2, 9.
+#[inline]
 pub fn clear(books: &Books, entries: &mut [Entry], rows: &mut [u64], txn: u64, partition: u64) -> Reply {
     let (es, es_len) = (entries.as_mut_ptr(), entries.len());
     let (rs, rs_len) = (rows.as_mut_ptr(), rows.len());
@@ -193,12 +197,14 @@ pub fn clear(books: &Books, entries: &mut [Entry], rows: &mut [u64], txn: u64, p
 }
 
 /// Commits a read-write transaction (01: load). Value: LCE. Refusals, in this order: 5, 2.
+#[inline]
 pub fn commit(books: &Books, entries: &[Entry], rows: &[u64], txn: u64) -> Reply {
     // Safety: as said above.
     unsafe { nizgulk_commit(*books, entries.as_ptr(), entries.len(), rows.as_ptr(), rows.len(), txn) }
 }
 
 /// Rolls back a read-write transaction (01: load). Value: LCE. Refusals, in this order: 5, 2.
+#[inline]
 pub fn roll_back(books: &Books, entries: &mut [Entry], rows: &mut [u64], txn: u64) -> Reply {
     // Safety: as said above.
     unsafe { nizgulk_roll_back(*books, entries.as_mut_ptr(), entries.len(), rows.as_mut_ptr(), rows.len(), txn) }
@@ -206,12 +212,14 @@ pub fn roll_back(books: &Books, entries: &mut [Entry], rows: &mut [u64], txn: u6
 
 /// Begins a read-only transaction (01: opens a page) at an epoch, LSE to LCE; 0 means LCE. Value: its ticket.
 /// Refusals, in this order: 5, 4, 6, 7.
+#[inline]
 pub fn begin_ro(books: &Books, entries: &[Entry], rows: &[u64], epoch: u64) -> Reply {
     // Safety: as said above.
     unsafe { nizgulk_begin_ro(*books, entries.as_ptr(), entries.len(), rows.as_ptr(), rows.len(), epoch) }
 }
 
 /// Ends a read-only transaction (01: closes a page). Value: how many are still open. Refusals, in this order: 5, 2.
+#[inline]
 pub fn end_ro(books: &Books, entries: &[Entry], rows: &[u64], ticket: u64) -> Reply {
     // Safety: as said above.
     unsafe { nizgulk_end_ro(*books, entries.as_ptr(), entries.len(), rows.as_ptr(), rows.len(), ticket) }
@@ -219,6 +227,7 @@ pub fn end_ro(books: &Books, entries: &[Entry], rows: &[u64], ticket: u64) -> Re
 
 /// What a read-write transaction (01: load) sees of a partition, written to `bitmap`: a bit a row, row 0 lowest in
 /// byte 0; the bits left in the last byte are 0, and later bytes stay. Refusals, in this order: 5, 1, 2, 3.
+#[inline]
 pub fn scan_rw(books: &Books, entries: &[Entry], rows: &[u64], bitmap: &mut [u8], txn: u64, partition: u64) -> Seen {
     let (es, es_len) = (entries.as_ptr(), entries.len());
     let (rs, rs_len) = (rows.as_ptr(), rows.len());
@@ -228,6 +237,7 @@ pub fn scan_rw(books: &Books, entries: &[Entry], rows: &[u64], bitmap: &mut [u8]
 
 /// What a read-only transaction (01: page) sees of a partition, written to `bitmap` as by [`scan_rw`].
 /// Refusals, in this order: 5, 1, 2, 3.
+#[inline]
 pub fn scan_ro(books: &Books, entries: &[Entry], rows: &[u64], bitmap: &mut [u8], ticket: u64, partition: u64) -> Seen {
     let (es, es_len) = (entries.as_ptr(), entries.len());
     let (rs, rs_len) = (rows.as_ptr(), rows.len());
@@ -236,6 +246,7 @@ pub fn scan_ro(books: &Books, entries: &[Entry], rows: &[u64], bitmap: &mut [u8]
 }
 
 /// Moves LSE to a target, LSE to LCE; 0 means as far as it may go. Value: LSE. Refusals, in this order: 5, 4, 10.
+#[inline]
 pub fn advance_lse(books: &Books, entries: &[Entry], rows: &[u64], target: u64) -> Reply {
     // Safety: as said above.
     unsafe { nizgulk_advance_lse(*books, entries.as_ptr(), entries.len(), rows.as_ptr(), rows.len(), target) }
@@ -243,6 +254,7 @@ pub fn advance_lse(books: &Books, entries: &[Entry], rows: &[u64], target: u64) 
 
 /// Purges a partition at LSE. Value: 1 if it was rewritten, 0 if it was skipped; and the part of the rows that is in
 /// force. Refusals, in this order: 5, 1.
+#[inline]
 pub fn purge(books: &Books, entries: &mut [Entry], rows: &mut [u64], partition: u64) -> Reply {
     let (es, es_len) = (entries.as_mut_ptr(), entries.len());
     let (rs, rs_len) = (rows.as_mut_ptr(), rows.len());
@@ -255,12 +267,14 @@ const _: () = assert!(size_of::<Store>() == size_of::<[u64; STORE_WORDS]>());
 const _: () = assert!(align_of::<Store>() == align_of::<[u64; STORE_WORDS]>());
 
 /// A store's words.
+#[inline]
 pub(crate) fn words(store: &Store) -> &[u64; STORE_WORDS] {
     // Safety: of one size and alignment, as asserted above, and without padding; lent for as long as the store is.
     unsafe { &*(store as *const Store).cast() }
 }
 
 /// Words as a store.
+#[inline]
 pub(crate) fn store_in(words: &mut [u64; STORE_WORDS]) -> &mut Store {
     // Safety: of one size and alignment, as asserted above, and any words are a store; lent for as long as the words
     // are.

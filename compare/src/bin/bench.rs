@@ -1,9 +1,10 @@
-//! Times the proved store beside the model: each call, by the static library, on an empty store, on one that is all but
-//! full with short entries, and on one with long entries; and the session program. All calls are accepted ones. The same
-//! input, both built for release, one thread, caches warm; each figure is the best of fifty runs, nine of the session, that
-//! of the model in turn with that of the proved one, the cost of reading the clock included. The ratio is how many times as fast as the model the proved store is; the last line is the worst.
+//! Times the proved store beside the model: each call, by the static library, on an empty store, on one that is all
+//! but full with short entries, and on one with long entries; and the session program. All calls are accepted ones.
+//! The same input, both built for release, one thread, caches warm; each figure is the best of fifty runs, nine of
+//! the session, that of the model in turn with that of the proved one, the cost of reading the clock included. The
+//! ratio is how many times as fast as the model the proved store is; the last line is the worst.
 
-use compare::{by_library, lent_by, measured, numbers, told, Books};
+use compare::{books_of, by_library, measured, numbers, told, Areas};
 use model::call::Call;
 use model::histories::{profile, Lines};
 use model::store::Store;
@@ -33,8 +34,8 @@ fn empty() -> Store {
     store
 }
 
-/// Eight lots of `count` entries of `rows` rows each, by the loads 1, 2 and 5 in turn; 31 open loads and 31 pages, so that
-/// one more of each begins; LSE is 2. In lot 0 is room for an entry and eight rows.
+/// Eight lots of `count` entries of `rows` rows each, by the loads 1, 2 and 5 in turn; 31 open loads and 31 pages, so
+/// that one more of each begins; LSE is 2. In lot 0 is room for an entry and eight rows.
 fn laden(count: u64, rows: usize) -> Store {
     let mut store = Store::new(1);
     for _ in 0..LOAD {
@@ -72,17 +73,31 @@ fn laden(count: u64, rows: usize) -> Store {
     store
 }
 
-fn undone(used: &mut Store, store: &Store) {
-    used.manager = store.manager;
-    used.rows.copy_from_slice(&store.rows);
-    used.entries.copy_from_slice(&store.entries);
+/// What a call writes to, and is put back.
+trait Undo {
+    fn undo(&mut self, before: &Self);
+}
+
+impl Undo for Store {
+    fn undo(&mut self, before: &Store) {
+        self.manager = before.manager;
+        self.rows.copy_from_slice(&before.rows);
+        self.entries.copy_from_slice(&before.entries);
+    }
+}
+
+impl Undo for Areas {
+    fn undo(&mut self, before: &Areas) {
+        self.rows.copy_from_slice(&before.rows);
+        self.entries.copy_from_slice(&before.entries);
+    }
 }
 
 /// The mean of a call in nanoseconds, each on the store as it was: what the call before wrote is undone, untimed.
-fn mean(used: &mut Store, store: &Store, mut call: impl FnMut(&mut Store)) -> f64 {
+fn mean<T: Undo>(used: &mut T, before: &T, mut call: impl FnMut(&mut T)) -> f64 {
     let mut spent = Duration::ZERO;
     for _ in 0..TURNS {
-        undone(used, store);
+        used.undo(before);
         let start = Instant::now();
         call(used);
         spent += start.elapsed();
@@ -93,15 +108,16 @@ fn mean(used: &mut Store, store: &Store, mut call: impl FnMut(&mut Store)) -> f6
 /// The proved call and the model's, in nanoseconds: the least of their means, taken in turn so that both meet the same
 /// moments of the machine. Both accept the call and leave the same store.
 fn timed(store: &Store, one: &Call) -> (f64, f64) {
-    let books = Books::of(&store.manager);
+    let (books, areas) = (books_of(&store.manager), Areas::of(store));
     let mut bitmap = one.lent_bitmap();
     let (mut proved, mut plain) = (store.clone(), store.clone());
     assert_eq!(told(&by_library(one, &mut proved, &mut bitmap)), numbers(&one.run(&mut plain, &mut bitmap)));
     assert_eq!((numbers(&one.run(&mut store.clone(), &mut bitmap)).0, proved == plain), (0, true), "{one:?}");
+    let mut lent = areas.clone();
     let (mut by_proof, mut by_model) = (f64::MAX, f64::MAX);
     for _ in 0..RUNS {
-        by_proof = by_proof.min(mean(&mut proved, store, |used| {
-            black_box(measured(black_box(one), black_box(&books), lent_by(used, &mut bitmap)));
+        by_proof = by_proof.min(mean(&mut lent, &areas, |used| {
+            black_box(measured(black_box(one), black_box(&books), used.lend(&mut bitmap)));
         }));
         by_model = by_model.min(mean(&mut plain, store, |used| {
             black_box(numbers(&black_box(one).run(used, &mut bitmap)));

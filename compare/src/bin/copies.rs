@@ -1,7 +1,7 @@
 //! Counts what one accepted call of the static library copies and clears: `memcpy` and `memset` stand here in place of the
 //! C library's, and count. On an empty store, where all that is copied is the books and what is made of them.
 
-use compare::{lent_by, measured, Books};
+use compare::{books_of, measured, Areas};
 use model::call::Call;
 use model::store::Store;
 use model::visible::Reader;
@@ -60,13 +60,13 @@ fn main() {
         ("move LSE", Call::MoveLse { target: 0 }),
         ("purge", Call::Purge { partition: 0 }),
     ];
-    let books = Books::of(&store.manager);
+    let books = books_of(&store.manager);
     for (name, one) in &list {
-        let (mut used, mut bitmap) = (store.clone(), one.lent_bitmap());
+        let (mut areas, mut bitmap) = (Areas::of(&store), one.lent_bitmap());
         BYTES.store(0, Relaxed);
         LARGE_ONES.store(0, Relaxed);
         COUNTING.store(true, Relaxed);
-        let number = measured(one, &books, lent_by(&mut used, &mut bitmap));
+        let number = measured(one, &books, areas.lend(&mut bitmap));
         COUNTING.store(false, Relaxed);
         assert_eq!(number, 0, "{name}");
         println!("{name:<15} {:>7} bytes, {} copies of {LARGE} or more", BYTES.load(Relaxed), LARGE_ONES.load(Relaxed));

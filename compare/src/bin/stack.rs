@@ -2,7 +2,7 @@
 //! runs, and the deepest word that it changed is looked for. Every kind of call on stores that histories made, on random
 //! and on spoilt ones. The figure has the copy of the books that the caller passes, and the reply.
 
-use compare::{call, lent_by, Books};
+use compare::{books_of, call, Areas};
 use model::call::Call;
 use model::histories::{Calls, PROFILES};
 use model::sound::well_formed;
@@ -46,11 +46,11 @@ fn used(first: *const u64) -> usize {
 #[inline(never)]
 fn measured(one: &Call, store: &mut Store) -> (usize, u64) {
     let mut bitmap = one.lent_bitmap();
-    let books = Books::of(&store.manager);
+    let (books, mut areas) = (books_of(&store.manager), Areas::of(store));
     let first = paint();
-    let reply = call(one, &books, lent_by(store, &mut bitmap));
+    let reply = call(one, &books, areas.lend(&mut bitmap));
     let bytes = used(first);
-    store.manager = reply.books.manager();
+    areas.put_back(&reply.books, store);
     (bytes, reply.number)
 }
 
