@@ -45,7 +45,7 @@ pub use store::{Purged, Store};
 
 /// The calls over books and areas of any words and any lengths, as the static library has them. Each copies the
 /// books, changes the lent areas in place, and replies with the books after the call: those are for the caller to
-/// keep with the areas, as [`Store`](crate::Store) does. Epochs, tickets and partitions are plain words here.
+/// keep with the areas, as [`Store`] does. Epochs, tickets and partitions are plain words here.
 ///
 /// ```
 /// use nizgulk::books::{Books, Entry};

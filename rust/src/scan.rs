@@ -49,6 +49,7 @@ impl<'a> Scan<'a> {
 }
 
 /// A word of the bitmap: row 64 * at is its lowest bit.
+#[inline]
 fn word_of(bitmap: &[u8; BITMAP_MAX], at: usize) -> u64 {
     let mut bytes = [0; 8];
     bytes.copy_from_slice(&bitmap[8 * at..8 * at + 8]);
@@ -58,6 +59,7 @@ fn word_of(bitmap: &[u8; BITMAP_MAX], at: usize) -> u64 {
 impl Iterator for Scan<'_> {
     type Item = u64;
 
+    #[inline]
     fn next(&mut self) -> Option<u64> {
         self.left = self.left.checked_sub(1)?;
         while self.word == 0 {
@@ -69,6 +71,7 @@ impl Iterator for Scan<'_> {
         Some(self.rows[row])
     }
 
+    #[inline]
     fn size_hint(&self) -> (usize, Option<usize>) {
         (self.left, Some(self.left))
     }
