@@ -116,7 +116,7 @@ fn main() -> Result<(), Box<dyn Error>> {
     for (lot, name) in LOTS {
         let before = store.row_count(lot).unwrap_or(0);
         let purged = store.purge(lot)?;
-        println!("{name} is purged: {} rows of {before} are in force", purged.rows.len());
+        println!("{name} is purged: {} of {before} rows in force", purged.rows.len());
         same(name, purged.rows, &evening[lot as usize])?;
     }
     same("rows of scrap", store.row_count(SCRAP), Some(evening[SCRAP as usize].len()))?;

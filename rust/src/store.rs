@@ -29,8 +29,9 @@ use core::fmt;
 ///
 /// - on the heap or wherever else there are [`STORE_WORDS`] words, by [`Store::in_words`].
 ///
-/// Each call tests whether the store is sound first, so that words which do not fit together, as of a damaged file, are
-/// refused by 5 and never believed.
+/// Each call tests first whether the store is sound, so that words which do not fit together are refused by 5. Words
+/// that fit together are believed: what 01 promises of a store, it promises of one that only these calls have written.
+/// A scan takes the store by `&`, so that several may run at the same time.
 #[repr(C)]
 #[derive(Clone, PartialEq, Eq)]
 pub struct Store {
@@ -123,8 +124,9 @@ impl Store {
         self.keep(&reply).map(|rows| rows as usize)
     }
 
-    /// Deletes a whole partition (01: clears a lot) for those who read after it: rows of earlier epochs, and the
-    /// transaction's own so far. Answers how many entries the partition has then. Refusals: 5, 1, 2, 9.
+    /// Deletes a whole partition (01: clears a lot) for those who read after the transaction has landed: the rows of
+    /// earlier epochs, and its own so far. From the transaction itself nothing is hidden. Answers how many entries the
+    /// partition has then. Refusals: 5, 1, 2, 9.
     ///
     /// ```
     /// use nizgulk::{Epoch, Refusal, Store};
@@ -136,6 +138,7 @@ impl Store {
     /// let load = store.begin()?;
     /// store.clear(load, 0)?;
     /// store.append(load, 0, &[20])?;
+    /// assert!(store.scan(load, 0)?.eq([10, 11, 20]));
     /// store.commit(load)?;
     /// let after = store.begin_ro(None)?;
     /// assert!(store.scan(before, 0)?.eq([10, 11]));
@@ -149,6 +152,15 @@ impl Store {
 
     /// Commits a read-write transaction (01: load): all that it wrote lands. Answers LCE, which stays behind while an
     /// earlier transaction is open. Refusals: 5, 2.
+    ///
+    /// ```
+    /// use nizgulk::{Epoch, Refusal, Store};
+    /// let mut store = Store::new(Epoch::FIRST)?;
+    /// let (first, second) = (store.begin()?, store.begin()?);
+    /// assert_eq!(store.commit(second)?, Epoch::new(0));
+    /// assert_eq!(store.commit(first)?, second);
+    /// # Ok::<(), Refusal>(())
+    /// ```
     pub fn commit(&mut self, txn: Epoch) -> Result<Epoch, Refusal> {
         let reply = raw::commit(&self.books, &self.entries, &self.rows, txn.get());
         self.keep(&reply).map(Epoch::new)
@@ -174,6 +186,21 @@ impl Store {
     /// Begins a read-only transaction (01: opens a page), which is named by the ticket that is answered: at an epoch,
     /// LSE to LCE, or at LCE if none is named. What it shows does not change until it ends. Epoch 0 cannot be named:
     /// as in 01, it means LCE. Refusals: 5, 4, 6, 7.
+    ///
+    /// ```
+    /// use nizgulk::{Epoch, Refusal, Store};
+    /// let mut store = Store::new(Epoch::FIRST)?;
+    /// for row in [10, 20, 30] {
+    ///     let load = store.begin()?;
+    ///     store.append(load, 0, &[row])?;
+    ///     store.commit(load)?;
+    /// }
+    /// let (second, latest) = (store.begin_ro(Epoch::new(2))?, store.begin_ro(None)?);
+    /// assert!(store.scan(second, 0)?.eq([10, 20]));
+    /// assert!(store.scan(latest, 0)?.eq([10, 20, 30]));
+    /// assert_eq!(store.begin_ro(Epoch::new(4)), Err(Refusal::OutOfRange));
+    /// # Ok::<(), Refusal>(())
+    /// ```
     pub fn begin_ro(&mut self, at: impl Into<Option<Epoch>>) -> Result<Ticket, Refusal> {
         let reply = raw::begin_ro(&self.books, &self.entries, &self.rows, at.into().map_or(0, Epoch::get));
         self.keep(&reply).map(Ticket::new)
@@ -213,6 +240,18 @@ impl Store {
 
     /// Moves LSE to a target, LSE to LCE, or as far as it may go if none is named (or 0). Answers LSE. It is blocked
     /// (01: held) while a transaction is open that needs what is older. Refusals: 5, 4, 10.
+    ///
+    /// ```
+    /// use nizgulk::{Epoch, Refusal, Store};
+    /// let mut store = Store::new(Epoch::FIRST)?;
+    /// let page = store.begin_ro(None)?;
+    /// let load = store.begin()?;
+    /// store.commit(load)?;
+    /// assert_eq!(store.advance_lse(load), Err(Refusal::Blocked));
+    /// store.end_ro(page)?;
+    /// assert_eq!(store.advance_lse(load), Ok(load));
+    /// # Ok::<(), Refusal>(())
+    /// ```
     pub fn advance_lse(&mut self, target: impl Into<Option<Epoch>>) -> Result<Epoch, Refusal> {
         let reply = raw::advance_lse(&self.books, &self.entries, &self.rows, target.into().map_or(0, Epoch::get));
         self.keep(&reply).map(Epoch::new)
