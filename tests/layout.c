@@ -308,6 +308,10 @@ static void limits(void)
 
     reply = nizgulk_create(reply.state, LENT, NIZGULK_FIRST_EPOCH - 1);
     told("making new at 0", NIZGULK_OUT_OF_RANGE, 0);
+    reply = nizgulk_create(reply.state, LENT, NIZGULK_FIRST_EPOCH);
+    told("making new at the first epoch", NIZGULK_ACCEPTED, 0);
+    reply = nizgulk_begin_ro(reply.state, LENT, 0);
+    told("the first page", NIZGULK_ACCEPTED, NIZGULK_FIRST_TICKET);
     reply = nizgulk_create(reply.state, LENT, NIZGULK_LAST_EPOCH + 1);
     told("making new above the last epoch", NIZGULK_OUT_OF_RANGE, 0);
     reply = nizgulk_create(reply.state, LENT, NIZGULK_LAST_EPOCH);
