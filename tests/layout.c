@@ -327,6 +327,11 @@ static void limits(void)
     told("a page more", NIZGULK_EXHAUSTED, 0);
 }
 
+static void bytes_of(const char *what, size_t bytes)
+{
+    printf("bytes of %-24s %6lu\n", what, (unsigned long)bytes);
+}
+
 int main(void)
 {
     memset(entries, 0xa5, sizeof entries);
@@ -338,9 +343,13 @@ int main(void)
     every_word_is_read();
     scans();
     limits();
-    printf("bytes of the books %lu, of a reply %lu\n", (unsigned long)sizeof want, (unsigned long)sizeof reply);
-    printf("bytes lent: entries %lu, rows %lu, a bitmap up to %d\n", (unsigned long)(sizeof entries - sizeof *entries),
-           (unsigned long)(sizeof rows - sizeof *rows), NIZGULK_BITMAP_MAX);
+    bytes_of("the books", sizeof want);
+    bytes_of("the entries", sizeof entries - sizeof *entries);
+    bytes_of("the rows", sizeof rows - sizeof *rows);
+    bytes_of("the store: these three", sizeof want + sizeof entries - sizeof *entries + sizeof rows - sizeof *rows);
+    bytes_of("a reply", sizeof reply);
+    bytes_of("a reply to a scan", sizeof(struct nizgulk_seen));
+    bytes_of("a bitmap, at most", NIZGULK_BITMAP_MAX);
     printf("%d checks, %d failed\n", checks, failures);
     return failures != 0;
 }

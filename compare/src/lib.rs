@@ -1,6 +1,8 @@
 //! The proved store by its static library, beside the model. Entries and areas lie in memory alike on both sides; the
 //! books do not: the proved ones keep the deps of all loads in one table. `Books` is that layout, word for word.
 
+pub mod prepared;
+
 use model::call::{Answer, Call};
 use model::clock::Clock;
 use model::partition::{Entry, Partitions};
