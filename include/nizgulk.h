@@ -22,7 +22,7 @@
  *   the books, the entries and the rows. Then no call is ever refused by 5, and what 01 promises of the rows shown
  *   holds. Other books and other entries may be handed over too: where they are not sound (01) the call answers 5,
  *   and in no case is anything undefined.
- * - Stack. docs/FIGURES.md has the greatest stack of each call, and what a program links to.
+ * - Stack. There is as much of it left as docs/FIGURES.md has for the call.
  *
  * LENGTHS. `entries_len` is NIZGULK_ENTRIES_LENT and `rows_len` is NIZGULK_ROWS_LENT: nine areas of 64 entries, and
  * of 512 rows. Any other length is refused by 5. What the areas hold before nizgulk_create does not matter.

@@ -15,22 +15,10 @@ use std::collections::BTreeSet;
 pub const LOAD: u64 = 5;
 pub const PAGE: u64 = 1;
 
-/// How many functions the static library has, and their names behind `nizgulk_`, in the order of `kind`.
-pub const KINDS: usize = 12;
-pub const NAMES: [&str; KINDS] = [
-    "create",
-    "begin",
-    "append",
-    "clear",
-    "commit",
-    "roll_back",
-    "begin_ro",
-    "end_ro",
-    "scan_rw",
-    "scan_ro",
-    "advance_lse",
-    "purge",
-];
+include!("names.rs");
+
+/// How many functions the static library has.
+pub const KINDS: usize = NAMES.len();
 
 /// The place of the function that runs the call, in `NAMES`.
 pub fn kind(one: &Call) -> usize {

@@ -26,21 +26,7 @@ const PAINT: u64 = 0x5ac3_1e77_9b04_d2f1;
 /// The stack pointer where a function of the library was entered: it points to the return address.
 static ENTERED: AtomicUsize = AtomicUsize::new(0);
 
-global_asm!(
-    ".macro enter name",
-    ".globl __wrap_nizgulk_\\name",
-    "__wrap_nizgulk_\\name:",
-    "mov qword ptr [rip + {entered}], rsp",
-    "jmp __real_nizgulk_\\name",
-    ".endm",
-    ".irp name, create, begin, append, clear, commit, roll_back",
-    "enter \\name",
-    ".endr",
-    ".irp name, begin_ro, end_ro, scan_rw, scan_ro, advance_lse, purge",
-    "enter \\name",
-    ".endr",
-    entered = sym ENTERED,
-);
+global_asm!(include_str!(concat!(env!("OUT_DIR"), "/entered.s")), entered = sym ENTERED);
 
 /// Fills the stack below the caller, and answers where that begins.
 #[inline(never)]
