@@ -2,7 +2,7 @@
 
 use crate::numbers;
 use model::call::Call;
-use model::partition::{Entry, CLEARING, ROWS};
+use model::partition::{Entry, Partition, CLEARING, ROWS};
 use model::random::Rng;
 use model::sound::well_formed;
 use model::store::Store;
@@ -126,20 +126,29 @@ fn rising(rng: &mut Rng, count: usize, low: u64, high: u64) -> Vec<u64> {
     numbers.into_iter().collect()
 }
 
+fn choose<T: Copy>(rng: &mut Rng, heaviest: bool, list: &[T]) -> T {
+    if heaviest {
+        list[list.len() - 1]
+    } else {
+        rng.pick(list)
+    }
+}
+
 /// A well-formed store that is full, or all but full, everywhere: 31 or 32 loads with 31 deps each, their epochs side
-/// by side or apart, 31 or 32 pages, eight lots of 60 to 64 entries and up to 512 rows, in areas of any order.
-pub fn dense(rng: &mut Rng) -> Store {
+/// by side or apart, 31 or 32 pages, eight lots of 60 to 64 entries and up to 512 rows, in areas of any order. Of each
+/// list below the last choice asks for the most work; `heaviest` takes it.
+pub fn dense(rng: &mut Rng, heaviest: bool) -> Store {
     let mut store = Store::new(1);
     let manager = &mut store.manager;
     let (loads, pages) = (rng.pick(&[TXNS - 1, TXNS]), rng.pick(&[TXNS - 1, TXNS]));
     let lse = rng.within(40, 90);
     let lce = lse + rng.within(DEPS as u64, 120);
-    let apart = rng.pick(&[0, 1, 60]);
+    let apart = choose(rng, heaviest, &[0, 1, 60]);
     let epochs = rising(rng, loads, lce + 1, lce + loads as u64 + apart);
     manager.clock.lse = lse;
     manager.clock.lce = lce;
     manager.clock.ec = epochs[loads - 1] + 1 + rng.below(2);
-    let wait = rng.pick(&[0, 0, 200]);
+    let wait = choose(rng, heaviest, &[200, 0, 0]);
     for (i, &epoch) in epochs.iter().enumerate() {
         let load = &mut manager.rw.at[i];
         load.epoch = epoch;
@@ -162,12 +171,14 @@ pub fn dense(rng: &mut Rng) -> Store {
         areas.swap(i, rng.below(i as u64 + 1) as usize);
     }
     manager.partitions.spare = areas[AREAS - 1];
-    // Whose entries they are: of any load, of the last two or of the first two; of older epochs now and then, or not.
-    let loaded = [&epochs[..], &epochs[loads - 2..], &epochs[..2]];
-    let loaded = rng.pick(&loaded);
-    let (old, committed, clearings) = (rng.pick(&[0, 0, 500]), rng.pick(&[0, 300]), rng.pick(&[0, 30, 300]));
+    // Whose entries they are: of any load, of the last two or of the first two; of older epochs in every lot, in one of
+    // them, or in none.
+    let loaded = choose(rng, heaviest, &[&epochs[..], &epochs[..2], &epochs[loads - 2..]]);
+    let (everywhere, one_lot) = (choose(rng, heaviest, &[500, 0, 0]), rng.below(2 * PARTITIONS as u64) as usize);
+    let (committed, clearings) = (choose(rng, heaviest, &[300, 0]), choose(rng, heaviest, &[300, 30, 0]));
     for (p, &area) in areas[..PARTITIONS].iter().enumerate() {
-        let count = rng.within(60, AREA_ENTRIES as u64);
+        let old = if p == one_lot { 1000 } else { everywhere };
+        let count = if heaviest && p > 0 { AREA_ENTRIES as u64 } else { rng.within(60, AREA_ENTRIES as u64) };
         let mut ends = rising(rng, count as usize - 1, 1, AREA_ROWS as u64 - 1);
         ends.push(AREA_ROWS as u64 - rng.pick(&[0, 0, 8]).min(AREA_ROWS as u64 - 1 - ends[ends.len() - 1]));
         let first = area as usize * AREA_ENTRIES;
@@ -185,7 +196,7 @@ pub fn dense(rng: &mut Rng) -> Store {
             before = Entry { epoch, end, mark };
             store.entries[first + i] = before;
         }
-        store.manager.partitions.at[p] = model::partition::Partition { area, rows: before.end, entries: count };
+        store.manager.partitions.at[p] = Partition { area, rows: before.end, entries: count };
     }
     for (i, row) in store.rows.iter_mut().enumerate() {
         *row = i as u64;
@@ -202,12 +213,18 @@ pub fn any_calls(store: &Store, rng: &mut Rng) -> Vec<Call> {
     let (first, last) = (loads.first().copied().unwrap_or(1), loads.last().copied().unwrap_or(1));
     let of = |load: &u64| store.entries.iter().filter(|entry| entry.epoch == *load).count();
     let most = loads.iter().copied().max_by_key(of).unwrap_or(1);
+    let old_in = |p: &u64| {
+        let first = manager.partitions.at[*p as usize].area as usize % AREAS * AREA_ENTRIES;
+        let entries = store.entries.iter().skip(first).take(AREA_ENTRIES);
+        entries.filter(|entry| entry.epoch <= manager.clock.lse).count()
+    };
+    let oldest = (0..PARTITIONS as u64).max_by_key(old_in).unwrap_or(0);
     let mut load = || if loads.is_empty() { 1 } else { rng.pick(&loads) };
     let (a, b, c, d, e) = (load(), load(), load(), load(), load());
     let page = if pages.is_empty() { 1 } else { rng.pick(&pages) };
     let mut lot = || rng.below(PARTITIONS as u64);
     let (p, q, r, s, t) = (lot(), lot(), lot(), lot(), lot());
-    let room = AREA_ROWS as u64 - manager.partitions.at[p as usize].rows;
+    let room = (AREA_ROWS as u64).saturating_sub(manager.partitions.at[p as usize].rows);
     let lent = AREA_ROWS / 8;
     vec![
         Call::New { start: manager.clock.ec },
@@ -227,5 +244,6 @@ pub fn any_calls(store: &Store, rng: &mut Rng) -> Vec<Call> {
         Call::MoveLse { target: 0 },
         Call::MoveLse { target: manager.clock.lce },
         Call::Purge { partition: t },
+        Call::Purge { partition: oldest },
     ]
 }

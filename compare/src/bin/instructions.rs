@@ -48,7 +48,7 @@ fn main() {
         let store = match seed % 4 {
             0 => after_a_history(&mut calls),
             1 => random_store(&mut calls.rng),
-            _ => dense(&mut calls.rng),
+            other => dense(&mut calls.rng, other == 3),
         };
         for one in any_calls(&store, &mut calls.rng) {
             one_call("search", &one, &store, seed);

@@ -82,7 +82,7 @@ fn greatest() -> [(usize, u64); KINDS] {
         let mut store = match round % 4 {
             0 => calls.first_store().0,
             1 => random_store(&mut calls.rng),
-            2 => dense(&mut calls.rng),
+            2 => dense(&mut calls.rng, round % 8 == 2),
             _ => spoilt_store(&mut calls.rng).0,
         };
         for one in any_calls(&store, &mut calls.rng) {
