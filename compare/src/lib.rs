@@ -2,6 +2,8 @@
 //! their layout is not: the proved books keep the deps of all loads in one table. Here is the way from the one to the
 //! other.
 
+pub mod prepared;
+
 use model::call::{Answer, Call};
 use model::clock::Clock;
 use model::partition::{Entry, Partition, Partitions};
