@@ -1,246 +1,127 @@
-//! The proved store by its static library, beside the model. Entries and areas lie in memory alike on both sides; the
-//! books do not: the proved ones keep the deps of all loads in one table. `Books` is that layout, word for word.
+//! The proved store, by crate nizgulk over its static library, beside the model. The words of the two are the same,
+//! their layout is not: the proved books keep the deps of all loads in one table. Here is the way from the one to the
+//! other.
+
+pub mod prepared;
 
 use model::call::{Answer, Call};
 use model::clock::Clock;
-use model::partition::{Entry, Partitions};
+use model::partition::{Entry, Partition, Partitions};
 use model::refusal::Refusal;
 use model::store::{Manager, Store};
-use model::txn::{RoTable, RwTable, RwTxn};
+use model::txn::{RoTable, RoTxn, RwTable, RwTxn};
 use model::visible::Reader;
 use model::{DEPS, TXNS};
+use nizgulk::books::{self, Books};
+use nizgulk::calls::{self, Reply, Seen};
 use std::hint::black_box;
 
-/// A load's record: `RwTxn` of crate rules. `deps` says how many it has.
-#[repr(C)]
-#[derive(Clone, Copy, Debug, PartialEq, Eq)]
-pub struct Record {
-    pub epoch: u64,
-    pub waiting: u64,
-    pub deps: u64,
-}
-
-/// The books: `State` of crate rules. Row i of `deps`, DEPS words from DEPS * i on, belongs to record i.
-#[repr(C)]
-#[derive(Clone, Copy, Debug, PartialEq, Eq)]
-pub struct Books {
-    pub clock: Clock,
-    pub records: [Record; TXNS],
-    pub count: u64,
-    pub deps: [u64; TXNS * DEPS],
-    pub ro: RoTable,
-    pub partitions: Partitions,
-}
-
-impl Books {
-    /// The model's books in this layout, every word of them.
-    pub fn of(manager: &Manager) -> Books {
-        let mut deps = [0; TXNS * DEPS];
-        for (row, load) in deps.chunks_exact_mut(DEPS).zip(&manager.rw.at) {
-            row.copy_from_slice(&load.deps);
-        }
-        let record = |load: RwTxn| Record { epoch: load.epoch, waiting: load.waiting, deps: load.deps_count };
-        Books {
-            clock: manager.clock,
-            records: manager.rw.at.map(record),
-            count: manager.rw.count,
-            deps,
-            ro: manager.ro,
-            partitions: manager.partitions,
-        }
+/// The model's books in the proved store's layout, every word of them.
+pub fn books_of(manager: &Manager) -> Books {
+    let Manager { clock, rw, ro, partitions } = manager;
+    let mut deps = [0; TXNS * DEPS];
+    for (row, load) in deps.chunks_exact_mut(DEPS).zip(&rw.at) {
+        row.copy_from_slice(&load.deps);
     }
-
-    /// These books in the model's layout.
-    pub fn manager(&self) -> Manager {
-        let mut rw = RwTable { count: self.count, ..RwTable::default() };
-        for ((load, record), row) in rw.at.iter_mut().zip(&self.records).zip(self.deps.chunks_exact(DEPS)) {
-            *load = RwTxn { epoch: record.epoch, waiting: record.waiting, deps: [0; DEPS], deps_count: record.deps };
-            load.deps.copy_from_slice(row);
-        }
-        Manager { clock: self.clock, rw, ro: self.ro, partitions: self.partitions }
+    let load = |load: RwTxn| books::RwTxn { epoch: load.epoch, waiting: load.waiting, deps: load.deps_count as usize };
+    let page = |page: RoTxn| books::RoTxn { ticket: page.ticket, epoch: page.epoch };
+    let lot = |lot: Partition| books::Partition {
+        area: lot.area as usize,
+        rows: lot.rows as usize,
+        entries: lot.entries as usize,
+    };
+    Books {
+        clock: books::Clock { ec: clock.ec, lce: clock.lce, lse: clock.lse },
+        writers: books::RwTxns { at: rw.at.map(load), count: rw.count as usize },
+        deps,
+        readers: books::RoTxns { at: ro.at.map(page), count: ro.count as usize, next: ro.next },
+        partitions: books::Partitions { at: partitions.at.map(lot), spare: partitions.spare as usize },
     }
 }
 
-/// The books after a call, what it answers as numbers, and the part in force of a purge: `Replied` of crate exports.
-#[repr(C)]
-#[derive(Clone, Copy, Debug, PartialEq, Eq)]
-pub struct Reply {
-    pub books: Books,
-    pub number: u64,
-    pub value: u64,
-    pub second: u64,
-    pub from: usize,
-    pub count: usize,
+/// The proved store's books in the model's layout, every word of them.
+pub fn manager_of(books: &Books) -> Manager {
+    let Books { clock, writers, deps, readers, partitions } = books;
+    let mut rw = RwTable { count: writers.count as u64, ..RwTable::default() };
+    for ((load, record), row) in rw.at.iter_mut().zip(&writers.at).zip(deps.chunks_exact(DEPS)) {
+        *load = RwTxn { epoch: record.epoch, waiting: record.waiting, deps: [0; DEPS], deps_count: record.deps as u64 };
+        load.deps.copy_from_slice(row);
+    }
+    let page = |page: books::RoTxn| RoTxn { ticket: page.ticket, epoch: page.epoch };
+    let lot =
+        |lot: books::Partition| Partition { area: lot.area as u64, rows: lot.rows as u64, entries: lot.entries as u64 };
+    Manager {
+        clock: Clock { ec: clock.ec, lce: clock.lce, lse: clock.lse },
+        rw,
+        ro: RoTable { at: readers.at.map(page), count: readers.count as u64, next: readers.next },
+        partitions: Partitions { at: partitions.at.map(lot), spare: partitions.spare as u64 },
+    }
 }
 
-/// What a scan answers as numbers: `Seen` of crate exports.
-#[repr(C)]
-#[derive(Clone, Copy, Debug, PartialEq, Eq)]
-pub struct Seen {
-    pub number: u64,
-    pub value: u64,
-    pub second: u64,
+/// The areas of a store, of any length, as the proved one is lent them.
+#[derive(Clone)]
+pub struct Areas {
+    pub rows: Vec<u64>,
+    pub entries: Vec<books::Entry>,
 }
 
-#[allow(improper_ctypes)]
-extern "C" {
-    fn nizgulk_create(
-        state: Books,
-        entries: *const Entry,
-        entries_len: usize,
-        rows: *const u64,
-        rows_len: usize,
-        start: u64,
-    ) -> Reply;
-    fn nizgulk_begin(
-        state: Books,
-        entries: *const Entry,
-        entries_len: usize,
-        rows: *const u64,
-        rows_len: usize,
-    ) -> Reply;
-    fn nizgulk_append(
-        state: Books,
-        entries: *mut Entry,
-        entries_len: usize,
-        rows: *mut u64,
-        rows_len: usize,
-        batch: *const u64,
-        batch_len: usize,
-        txn: u64,
-        p: u64,
-    ) -> Reply;
-    fn nizgulk_clear(
-        state: Books,
-        entries: *mut Entry,
-        entries_len: usize,
-        rows: *mut u64,
-        rows_len: usize,
-        txn: u64,
-        p: u64,
-    ) -> Reply;
-    fn nizgulk_commit(
-        state: Books,
-        entries: *const Entry,
-        entries_len: usize,
-        rows: *const u64,
-        rows_len: usize,
-        txn: u64,
-    ) -> Reply;
-    fn nizgulk_roll_back(
-        state: Books,
-        entries: *mut Entry,
-        entries_len: usize,
-        rows: *mut u64,
-        rows_len: usize,
-        txn: u64,
-    ) -> Reply;
-    fn nizgulk_begin_ro(
-        state: Books,
-        entries: *const Entry,
-        entries_len: usize,
-        rows: *const u64,
-        rows_len: usize,
-        epoch: u64,
-    ) -> Reply;
-    fn nizgulk_end_ro(
-        state: Books,
-        entries: *const Entry,
-        entries_len: usize,
-        rows: *const u64,
-        rows_len: usize,
-        ticket: u64,
-    ) -> Reply;
-    fn nizgulk_scan_rw(
-        state: Books,
-        entries: *const Entry,
-        entries_len: usize,
-        rows: *const u64,
-        rows_len: usize,
-        bitmap: *mut u8,
-        bitmap_len: usize,
-        txn: u64,
-        p: u64,
-    ) -> Seen;
-    fn nizgulk_scan_ro(
-        state: Books,
-        entries: *const Entry,
-        entries_len: usize,
-        rows: *const u64,
-        rows_len: usize,
-        bitmap: *mut u8,
-        bitmap_len: usize,
-        ticket: u64,
-        p: u64,
-    ) -> Seen;
-    fn nizgulk_advance_lse(
-        state: Books,
-        entries: *const Entry,
-        entries_len: usize,
-        rows: *const u64,
-        rows_len: usize,
-        target: u64,
-    ) -> Reply;
-    fn nizgulk_purge(
-        state: Books,
-        entries: *mut Entry,
-        entries_len: usize,
-        rows: *mut u64,
-        rows_len: usize,
-        p: u64,
-    ) -> Reply;
+impl Areas {
+    /// Those of a store of the model's.
+    pub fn of(store: &Store) -> Areas {
+        let entry = |entry: &Entry| books::Entry { epoch: entry.epoch, end: entry.end as usize, mark: entry.mark };
+        Areas { rows: store.rows.clone(), entries: store.entries.iter().map(entry).collect() }
+    }
+
+    /// Lends them, with a bitmap.
+    pub fn lend<'a>(&'a mut self, bitmap: &'a mut [u8]) -> Lent<'a> {
+        Lent { rows: &mut self.rows, entries: &mut self.entries, bitmap }
+    }
+
+    /// Makes a store of the model's out of them and of the books.
+    pub fn put_back(self, books: &Books, store: &mut Store) {
+        let entry = |entry: books::Entry| Entry { epoch: entry.epoch, end: entry.end as u64, mark: entry.mark };
+        store.manager = manager_of(books);
+        store.rows = self.rows;
+        store.entries = self.entries.into_iter().map(entry).collect();
+    }
 }
 
 /// What the proved store is lent beside the books.
 pub struct Lent<'a> {
     pub rows: &'a mut [u64],
-    pub entries: &'a mut [Entry],
+    pub entries: &'a mut [books::Entry],
     pub bitmap: &'a mut [u8],
 }
 
 /// Runs a scan on the proved store, which leaves the books.
 pub fn scan(reader: Reader, partition: u64, books: &Books, lent: Lent) -> Seen {
-    let (entries, entries_len) = (lent.entries.as_ptr(), lent.entries.len());
-    let (rows, rows_len) = (lent.rows.as_ptr(), lent.rows.len());
-    let (bitmap, len) = (lent.bitmap.as_mut_ptr(), lent.bitmap.len());
-    // Safety: each pointer comes with the length of the slice it was taken from, and no two slices overlap.
-    unsafe {
-        match reader {
-            Reader::Rw(txn) => {
-                nizgulk_scan_rw(*books, entries, entries_len, rows, rows_len, bitmap, len, txn, partition)
-            }
-            Reader::Ro(ticket) => {
-                nizgulk_scan_ro(*books, entries, entries_len, rows, rows_len, bitmap, len, ticket, partition)
-            }
-        }
+    let Lent { rows, entries, bitmap } = lent;
+    match reader {
+        Reader::Rw(txn) => calls::scan_rw(books, entries, rows, bitmap, txn, partition),
+        Reader::Ro(ticket) => calls::scan_ro(books, entries, rows, bitmap, ticket, partition),
     }
 }
 
 /// Runs the call on the proved store: what is lent is changed in place, the books are in the reply.
 pub fn call(call: &Call, books: &Books, lent: Lent) -> Reply {
-    let (es, es_len) = (lent.entries.as_mut_ptr(), lent.entries.len());
-    let (rs, rs_len) = (lent.rows.as_mut_ptr(), lent.rows.len());
-    // Safety: each pointer comes with the length of the slice it was taken from, and no two slices overlap.
-    unsafe {
-        match call {
-            Call::New { start } => nizgulk_create(*books, es, es_len, rs, rs_len, *start),
-            Call::Begin => nizgulk_begin(*books, es, es_len, rs, rs_len),
-            Call::Append { epoch, partition, rows } => {
-                let (batch, len) = (rows.as_ptr(), rows.len());
-                nizgulk_append(*books, es, es_len, rs, rs_len, batch, len, *epoch, *partition)
-            }
-            Call::Clear { epoch, partition } => nizgulk_clear(*books, es, es_len, rs, rs_len, *epoch, *partition),
-            Call::Commit { epoch } => nizgulk_commit(*books, es, es_len, rs, rs_len, *epoch),
-            Call::Rollback { epoch } => nizgulk_roll_back(*books, es, es_len, rs, rs_len, *epoch),
-            Call::Open { epoch } => nizgulk_begin_ro(*books, es, es_len, rs, rs_len, *epoch),
-            Call::Close { ticket } => nizgulk_end_ro(*books, es, es_len, rs, rs_len, *ticket),
-            Call::Scan { reader, partition, .. } => {
-                let Seen { number, value, second } = scan(*reader, *partition, books, lent);
-                Reply { books: *books, number, value, second, from: 0, count: 0 }
-            }
-            Call::MoveLse { target } => nizgulk_advance_lse(*books, es, es_len, rs, rs_len, *target),
-            Call::Purge { partition } => nizgulk_purge(*books, es, es_len, rs, rs_len, *partition),
+    let Lent { rows, entries, bitmap } = lent;
+    match call {
+        Call::New { start } => calls::create(books, entries, rows, *start),
+        Call::Begin => calls::begin(books, entries, rows),
+        Call::Append { epoch, partition, rows: batch } => {
+            calls::append(books, entries, rows, batch, *epoch, *partition)
         }
+        Call::Clear { epoch, partition } => calls::clear(books, entries, rows, *epoch, *partition),
+        Call::Commit { epoch } => calls::commit(books, entries, rows, *epoch),
+        Call::Rollback { epoch } => calls::roll_back(books, entries, rows, *epoch),
+        Call::Open { epoch } => calls::begin_ro(books, entries, rows, *epoch),
+        Call::Close { ticket } => calls::end_ro(books, entries, rows, *ticket),
+        Call::Scan { reader, partition, .. } => {
+            let Seen { number, value, second } = scan(*reader, *partition, books, Lent { rows, entries, bitmap });
+            Reply { books: *books, number, value, second, from: 0, count: 0 }
+        }
+        Call::MoveLse { target } => calls::advance_lse(books, entries, rows, *target),
+        Call::Purge { partition } => calls::purge(books, entries, rows, *partition),
     }
 }
 
@@ -252,15 +133,11 @@ pub fn measured(one: &Call, books: &Books, lent: Lent) -> u64 {
     }
 }
 
-/// What a store of the model's lends, with a bitmap.
-pub fn lent_by<'a>(store: &'a mut Store, bitmap: &'a mut [u8]) -> Lent<'a> {
-    Lent { rows: &mut store.rows, entries: &mut store.entries, bitmap }
-}
-
 /// Runs the call on a store of the model's by the proved library, and leaves it as that does.
 pub fn by_library(one: &Call, store: &mut Store, bitmap: &mut [u8]) -> Reply {
-    let reply = call(one, &Books::of(&store.manager), lent_by(store, bitmap));
-    store.manager = reply.books.manager();
+    let mut areas = Areas::of(store);
+    let reply = call(one, &books_of(&store.manager), areas.lend(bitmap));
+    areas.put_back(&reply.books, store);
     reply
 }
 

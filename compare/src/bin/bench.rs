@@ -1,9 +1,11 @@
-//! Times the proved store beside the model: each call, by the static library, on an empty store, on one that is all but
-//! full with short entries, and on one with long entries; and the session program. All calls are accepted ones. The same
-//! input, both built for release, one thread, caches warm; each figure is the best of fifty runs, nine of the session, that
-//! of the model in turn with that of the proved one, the cost of reading the clock included. The ratio is how many times as fast as the model the proved store is; the last line is the worst.
+//! Times the proved store beside the model: each call, by the static library, on an empty store, on one that is all
+//! but full with short entries, and on one with long entries; and the session program. All calls are accepted ones.
+//! The same input, both built for release, one thread, caches warm; each figure is the best of fifty runs, nine of
+//! the session, that of the model in turn with that of the proved one, the cost of reading the clock included. The
+//! ratio is how many times as fast as the model the proved store is; the last line is the worst.
 
-use compare::{by_library, lent_by, measured, numbers, told, Books};
+use compare::prepared::{append, each_call, empty, laden, scan};
+use compare::{books_of, by_library, measured, numbers, told, Areas};
 use model::call::Call;
 use model::histories::{profile, Lines};
 use model::store::Store;
@@ -18,71 +20,31 @@ const TURNS: u32 = 400;
 const SESSIONS: usize = 9;
 const LINES: usize = 200_000;
 
-/// An open load and an open page on it.
-const LOAD: u64 = 5;
-const PAGE: u64 = 1;
-
-fn run(store: &mut Store, call: Call) {
-    assert_eq!(numbers(&call.run(store, &mut [])).0, 0, "{call:?}");
+/// What a call writes to, and is put back.
+trait Undo {
+    fn undo(&mut self, before: &Self);
 }
 
-fn empty() -> Store {
-    let mut store = Store::new(LOAD);
-    run(&mut store, Call::Begin);
-    run(&mut store, Call::Open { epoch: 0 });
-    store
+impl Undo for Store {
+    fn undo(&mut self, before: &Store) {
+        self.manager = before.manager;
+        self.rows.copy_from_slice(&before.rows);
+        self.entries.copy_from_slice(&before.entries);
+    }
 }
 
-/// Eight lots of `count` entries of `rows` rows each, by the loads 1, 2 and 5 in turn; 31 open loads and 31 pages, so that
-/// one more of each begins; LSE is 2. In lot 0 is room for an entry and eight rows.
-fn laden(count: u64, rows: usize) -> Store {
-    let mut store = Store::new(1);
-    for _ in 0..LOAD {
-        run(&mut store, Call::Begin);
+impl Undo for Areas {
+    fn undo(&mut self, before: &Areas) {
+        self.rows.copy_from_slice(&before.rows);
+        self.entries.copy_from_slice(&before.entries);
     }
-    for turn in 0..count {
-        for partition in 0..8 {
-            let epoch = [1, 2, LOAD][turn as usize % 3];
-            run(&mut store, Call::Append { epoch, partition, rows: vec![turn; rows] });
-        }
-    }
-    for partition in 1..8 {
-        let left = 512 - store.manager.partitions.at[partition as usize].rows as usize;
-        let epoch = [1, 2, LOAD][count as usize % 3];
-        run(&mut store, Call::Append { epoch, partition, rows: vec![count; left] });
-    }
-    for epoch in 1..LOAD {
-        run(&mut store, Call::Commit { epoch });
-    }
-    for _ in 0..31 {
-        run(&mut store, Call::Open { epoch: 2 });
-    }
-    for _ in 0..30 {
-        run(&mut store, Call::Begin);
-    }
-    // LSE is held while a load has an epoch at or below it in its deps: load 5 began before 1 to 4 were closed.
-    store.manager.clock.lse = 2;
-    for load in &mut store.manager.rw.at {
-        let kept: Vec<u64> = load.deps[..load.deps_count as usize].iter().copied().filter(|&dep| dep > 4).collect();
-        load.deps = [0; 31];
-        load.deps[..kept.len()].copy_from_slice(&kept);
-        load.deps_count = kept.len() as u64;
-    }
-    assert!(model::sound::well_formed(&store));
-    store
-}
-
-fn undone(used: &mut Store, store: &Store) {
-    used.manager = store.manager;
-    used.rows.copy_from_slice(&store.rows);
-    used.entries.copy_from_slice(&store.entries);
 }
 
 /// The mean of a call in nanoseconds, each on the store as it was: what the call before wrote is undone, untimed.
-fn mean(used: &mut Store, store: &Store, mut call: impl FnMut(&mut Store)) -> f64 {
+fn mean<T: Undo>(used: &mut T, before: &T, mut call: impl FnMut(&mut T)) -> f64 {
     let mut spent = Duration::ZERO;
     for _ in 0..TURNS {
-        undone(used, store);
+        used.undo(before);
         let start = Instant::now();
         call(used);
         spent += start.elapsed();
@@ -93,15 +55,16 @@ fn mean(used: &mut Store, store: &Store, mut call: impl FnMut(&mut Store)) -> f6
 /// The proved call and the model's, in nanoseconds: the least of their means, taken in turn so that both meet the same
 /// moments of the machine. Both accept the call and leave the same store.
 fn timed(store: &Store, one: &Call) -> (f64, f64) {
-    let books = Books::of(&store.manager);
+    let (books, areas) = (books_of(&store.manager), Areas::of(store));
     let mut bitmap = one.lent_bitmap();
     let (mut proved, mut plain) = (store.clone(), store.clone());
     assert_eq!(told(&by_library(one, &mut proved, &mut bitmap)), numbers(&one.run(&mut plain, &mut bitmap)));
     assert_eq!((numbers(&one.run(&mut store.clone(), &mut bitmap)).0, proved == plain), (0, true), "{one:?}");
+    let mut lent = areas.clone();
     let (mut by_proof, mut by_model) = (f64::MAX, f64::MAX);
     for _ in 0..RUNS {
-        by_proof = by_proof.min(mean(&mut proved, store, |used| {
-            black_box(measured(black_box(one), black_box(&books), lent_by(used, &mut bitmap)));
+        by_proof = by_proof.min(mean(&mut lent, &areas, |used| {
+            black_box(measured(black_box(one), black_box(&books), used.lend(&mut bitmap)));
         }));
         by_model = by_model.min(mean(&mut plain, store, |used| {
             black_box(numbers(&black_box(one).run(used, &mut bitmap)));
@@ -152,22 +115,7 @@ fn session(program: &str, input: &[u8]) -> std::io::Result<f64> {
 }
 
 fn main() -> std::io::Result<()> {
-    let scan = |reader| Call::Scan { reader, partition: 0, lent: 64 };
-    let append = |count: u64| Call::Append { epoch: LOAD, partition: 0, rows: (0..count).collect() };
-    let list = [
-        Call::New { start: 1 },
-        Call::Begin,
-        append(8),
-        Call::Clear { epoch: LOAD, partition: 0 },
-        Call::Commit { epoch: LOAD },
-        Call::Rollback { epoch: LOAD },
-        Call::Open { epoch: 0 },
-        Call::Close { ticket: PAGE },
-        scan(Reader::Rw(LOAD)),
-        scan(Reader::Ro(PAGE)),
-        Call::MoveLse { target: 0 },
-        Call::Purge { partition: 0 },
-    ];
+    let list = each_call();
     let last = [scan(Reader::Rw(35)), Call::Commit { epoch: 35 }, Call::Rollback { epoch: 35 }];
     let mut worst = Worst { ratio: f64::MAX, what: String::new() };
     calls("an empty store", &empty(), &list, &mut worst);

@@ -1,44 +1,14 @@
-//! Counts what one accepted call of the static library copies and clears: `memcpy` and `memset` stand here in place of the
-//! C library's, and count. On an empty store, where all that is copied is the books and what is made of them.
+//! Counts what one accepted call of the static library copies and clears. On an empty store, where all that is copied
+//! is the books and what is made of them.
 
-use compare::{lent_by, measured, Books};
+#[path = "../counted.rs"]
+mod counted;
+
+use compare::{books_of, measured, Areas};
+use counted::{counted, LARGE};
 use model::call::Call;
 use model::store::Store;
 use model::visible::Reader;
-use std::arch::asm;
-use std::sync::atomic::{AtomicBool, AtomicUsize, Ordering::Relaxed};
-
-/// Of so many bytes a copy is called large: the books have 9.4 KB.
-const LARGE: usize = 7_000;
-
-static COUNTING: AtomicBool = AtomicBool::new(false);
-static BYTES: AtomicUsize = AtomicUsize::new(0);
-static LARGE_ONES: AtomicUsize = AtomicUsize::new(0);
-
-fn count(bytes: usize) {
-    if COUNTING.load(Relaxed) {
-        BYTES.fetch_add(bytes, Relaxed);
-        LARGE_ONES.fetch_add(usize::from(bytes >= LARGE), Relaxed);
-    }
-}
-
-/// # Safety
-/// As C has it: `n` bytes may be read at `from` and written at `to`, and the two do not overlap.
-#[no_mangle]
-pub unsafe extern "C" fn memcpy(to: *mut u8, from: *const u8, n: usize) -> *mut u8 {
-    count(n);
-    asm!("rep movsb", inout("rdi") to => _, inout("rsi") from => _, inout("rcx") n => _, options(nostack));
-    to
-}
-
-/// # Safety
-/// As C has it: `n` bytes may be written at `to`.
-#[no_mangle]
-pub unsafe extern "C" fn memset(to: *mut u8, byte: i32, n: usize) -> *mut u8 {
-    count(n);
-    asm!("rep stosb", inout("rdi") to => _, in("al") byte as u8, inout("rcx") n => _, options(nostack));
-    to
-}
 
 fn main() {
     let mut store = Store::new(5);
@@ -60,15 +30,11 @@ fn main() {
         ("move LSE", Call::MoveLse { target: 0 }),
         ("purge", Call::Purge { partition: 0 }),
     ];
-    let books = Books::of(&store.manager);
+    let books = books_of(&store.manager);
     for (name, one) in &list {
-        let (mut used, mut bitmap) = (store.clone(), one.lent_bitmap());
-        BYTES.store(0, Relaxed);
-        LARGE_ONES.store(0, Relaxed);
-        COUNTING.store(true, Relaxed);
-        let number = measured(one, &books, lent_by(&mut used, &mut bitmap));
-        COUNTING.store(false, Relaxed);
+        let (mut areas, mut bitmap) = (Areas::of(&store), one.lent_bitmap());
+        let (number, bytes, large) = counted(|| measured(one, &books, areas.lend(&mut bitmap)));
         assert_eq!(number, 0, "{name}");
-        println!("{name:<15} {:>7} bytes, {} copies of {LARGE} or more", BYTES.load(Relaxed), LARGE_ONES.load(Relaxed));
+        println!("{name:<15} {bytes:>7} bytes, {large} copies of {LARGE} or more");
     }
 }

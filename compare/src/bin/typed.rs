@@ -1,0 +1,148 @@
+//! Runs the calls of `nizgulk::Store` beside the model, on stores that histories made and on random and spoilt ones.
+//! Compared are the number, the values, the rows that a scan hands out, the part that a purge does, and every word of
+//! the store at the end of each call.
+
+use compare::{books_of, live_part, numbers, Areas};
+use model::call::{Answer, Call};
+use model::histories::{Calls, PROFILES};
+use model::partition::rows_of;
+use model::sound::well_formed;
+use model::store::Store;
+use model::stores::{random_store, spoilt_store};
+use model::visible::Reader;
+use nizgulk::limits::BITMAP_MAX;
+use nizgulk::{Epoch, Refusal, Ticket};
+use std::process::ExitCode;
+
+/// Rounds, if no other number is given.
+const ROUNDS: u64 = 3_000;
+/// Calls on one store.
+const CALLS: u64 = 24;
+
+/// The values that a call answers, and the rows that it hands out.
+type Told = ((u64, u64), Vec<u64>);
+
+/// What `nizgulk::Store` answers.
+fn typed(one: &Call, store: &mut nizgulk::Store) -> Result<Told, Refusal> {
+    let value = match one {
+        Call::New { start } => store.create(Epoch::new(*start)).map(|()| 0)?,
+        Call::Begin => store.begin()?.get(),
+        Call::Append { epoch, partition, rows } => store.append(Epoch::new(*epoch), *partition, rows)? as u64,
+        Call::Clear { epoch, partition } => store.clear(Epoch::new(*epoch), *partition)? as u64,
+        Call::Commit { epoch } => store.commit(Epoch::new(*epoch))?.get(),
+        Call::Rollback { epoch } => store.roll_back(Epoch::new(*epoch))?.get(),
+        Call::Open { epoch: 0 } => store.begin_ro(None)?.get(),
+        Call::Open { epoch } => store.begin_ro(Epoch::new(*epoch))?.get(),
+        Call::Close { ticket } => store.end_ro(Ticket::new(*ticket))? as u64,
+        Call::MoveLse { target: 0 } => store.advance_lse(None)?.get(),
+        Call::MoveLse { target } => store.advance_lse(Epoch::new(*target))?.get(),
+        Call::Purge { partition } => {
+            let purged = store.purge(*partition)?;
+            return Ok(((u64::from(purged.rewritten), 0), purged.rows.to_vec()));
+        }
+        Call::Scan { reader, partition, .. } => {
+            let scan = match reader {
+                Reader::Rw(epoch) => store.scan(Epoch::new(*epoch), *partition)?,
+                Reader::Ro(ticket) => store.scan(Ticket::new(*ticket), *partition)?,
+            };
+            return Ok(((scan.row_count() as u64, scan.len() as u64), scan.collect()));
+        }
+    };
+    Ok(((value, 0), Vec::new()))
+}
+
+/// What the model answers. A scan of the crate's has a bitmap for every row.
+fn expected(one: &Call, store: &mut Store) -> Result<Told, u64> {
+    let mut bitmap = [0; BITMAP_MAX];
+    let answer = one.run(store, &mut bitmap);
+    let rows = match (one, &answer) {
+        (Call::Scan { partition, .. }, Ok(Answer::Scanned(_))) => {
+            let rows = rows_of(&store.manager.partitions.at[*partition as usize], &store.rows);
+            let shown = |at: usize| bitmap[at / 8] >> (at % 8) & 1 == 1;
+            rows.iter().enumerate().filter(|(at, _)| shown(*at)).map(|(_, row)| *row).collect()
+        }
+        _ => live_part(&answer, store).to_vec(),
+    };
+    match numbers(&answer) {
+        (0, value, second) => Ok(((value, second), rows)),
+        (number, ..) => Err(number),
+    }
+}
+
+/// The model's store as the crate has it, if its areas have the right lengths.
+fn typed_of(store: &Store) -> Option<nizgulk::Store> {
+    let Areas { rows, entries } = Areas::of(store);
+    Some(nizgulk::Store::from_parts(books_of(&store.manager), entries.try_into().ok()?, rows.try_into().ok()?))
+}
+
+/// How often each number was answered, and how many rows scans and purges handed out.
+#[derive(Default)]
+struct Tally {
+    numbers: [u64; 11],
+    scanned: usize,
+    purged: usize,
+}
+
+/// Runs one call on both, and says where they differ.
+fn differs(one: &Call, proved: &mut nizgulk::Store, store: &mut Store, tally: &mut Tally) -> Result<(), String> {
+    let told = typed(one, proved).map_err(Refusal::number);
+    let ought = expected(one, store);
+    if told != ought {
+        return Err(format!("answers {told:?}, and the model {ought:?}"));
+    }
+    if typed_of(store).as_ref() != Some(&*proved) {
+        return Err("leaves another store than the model".to_string());
+    }
+    match (one, told) {
+        (_, Err(number)) => tally.numbers[number.min(10) as usize] += 1,
+        (one, Ok((_, rows))) => {
+            tally.numbers[0] += 1;
+            match one {
+                Call::Scan { .. } => tally.scanned += rows.len(),
+                _ => tally.purged += rows.len(),
+            }
+        }
+    }
+    Ok(())
+}
+
+fn main() -> ExitCode {
+    let rounds = std::env::args().nth(1).and_then(|word| word.parse().ok()).unwrap_or(ROUNDS);
+    let mut tally = Tally::default();
+    for round in 0..rounds {
+        let profile = PROFILES[(round / 3) as usize % PROFILES.len()];
+        let mut calls = Calls::new(round, profile);
+        let mut store = match round % 3 {
+            0 => calls.first_store().0,
+            1 => random_store(&mut calls.rng),
+            _ => spoilt_store(&mut calls.rng).0,
+        };
+        let other = random_store(&mut calls.rng);
+        let Some(mut proved) = typed_of(&store) else { continue };
+        for _ in 0..CALLS {
+            let next = calls.next_call(if well_formed(&store) { &store } else { &other });
+            if let Err(what) = differs(&next, &mut proved, &mut store, &mut tally) {
+                println!("round {round}, {}: {next:?}: {what}", profile.name);
+                return ExitCode::FAILURE;
+            }
+        }
+    }
+    // 3 is not to be met: the crate's own bitmap is always long enough.
+    let met: Vec<bool> = tally.numbers.iter().map(|&count| count > 0).collect();
+    if met != [true, true, true, false, true, true, true, true, true, true, true] {
+        println!("by number {:?}: the comparison is too weak", tally.numbers);
+        return ExitCode::FAILURE;
+    }
+    if tally.scanned == 0 || tally.purged == 0 {
+        println!("{} rows scanned, {} purged: the comparison is too weak", tally.scanned, tally.purged);
+        return ExitCode::FAILURE;
+    }
+    println!(
+        "typed: {} calls agree; by number {:?}; {} rows scanned, {} in parts",
+        tally.numbers.iter().sum::<u64>(),
+        tally.numbers,
+        tally.scanned,
+        tally.purged
+    );
+    ExitCode::SUCCESS
+}

@@ -1,0 +1,120 @@
+//! What the crate adds to the calls: the iterator over rows shown, purge's part, a store's words, and where it may lie.
+
+use nizgulk::limits::{ROWS_MAX, STORE_WORDS};
+use nizgulk::{Epoch, Scan, Store};
+
+/// A full partition: rows 0 to 511, by two loads in turn, as many at a time as these lengths say. Only the first
+/// commits.
+fn striped(lengths: &[usize]) -> (Store, Epoch, Vec<u64>) {
+    let mut store = Store::new(Epoch::FIRST).unwrap();
+    let loads = [store.begin().unwrap(), store.begin().unwrap()];
+    let mut of_first = Vec::new();
+    let mut from = 0;
+    for (turn, length) in lengths.iter().cycle().take(60).enumerate() {
+        let rows: Vec<u64> = (from..(from + *length as u64).min(ROWS_MAX as u64)).collect();
+        from += rows.len() as u64;
+        store.append(loads[turn % 2], 5, &rows).unwrap();
+        if turn % 2 == 0 {
+            of_first.extend(rows);
+        }
+    }
+    assert_eq!(from, ROWS_MAX as u64);
+    store.commit(loads[0]).unwrap();
+    (store, loads[1], of_first)
+}
+
+/// The rows shown, one by one, with the length told right at each.
+fn one_by_one(mut scan: Scan) -> Vec<u64> {
+    let mut rows = Vec::new();
+    loop {
+        let left = scan.len();
+        let Some(row) = scan.next() else {
+            assert_eq!((left, scan.next()), (0, None));
+            return rows;
+        };
+        assert_eq!(scan.len() + 1, left);
+        rows.push(row);
+    }
+}
+
+#[test]
+fn a_scan_shows_the_rows_in_order() {
+    for lengths in [&[1, 17][..], &[64, 64], &[5, 3, 70, 130], &[511, 1], &[0, 200], &[128, 1, 1, 127]] {
+        let (mut store, second, of_first) = striped(lengths);
+        let of_second: Vec<u64> = (0..ROWS_MAX as u64).filter(|row| !of_first.contains(row)).collect();
+        let page = store.begin_ro(None).unwrap();
+        for (scan, rows) in [(store.scan(page, 5).unwrap(), &of_first), (store.scan(second, 5).unwrap(), &of_second)] {
+            let shown = |row: &u64| scan.bitmap()[*row as usize / 8] >> (row % 8) & 1 == 1;
+            assert_eq!(scan.row_count(), ROWS_MAX);
+            assert_eq!(&(0..ROWS_MAX as u64).filter(shown).collect::<Vec<_>>(), rows);
+            assert_eq!(scan.clone().sum::<u64>(), rows.iter().sum());
+            assert_eq!(&scan.clone().collect::<Vec<_>>(), rows);
+            assert_eq!(&one_by_one(scan), rows);
+        }
+    }
+}
+
+#[test]
+fn a_scan_goes_on_where_it_was_left() {
+    let (mut store, _, rows) = striped(&[5, 3, 70, 130]);
+    let page = store.begin_ro(None).unwrap();
+    for taken in [0, 1, 4, 5, 6, 74, 75, 76, rows.len()] {
+        let mut scan = store.scan(page, 5).unwrap();
+        assert!(scan.by_ref().take(taken).eq(rows[..taken].iter().copied()));
+        assert_eq!(scan.fold(Vec::new(), |all, row| [all, vec![row]].concat()), rows[taken..]);
+    }
+}
+
+#[test]
+fn a_purge_answers_with_the_rows_in_force() {
+    let (mut store, second, rows) = striped(&[5, 13]);
+    let before = store.row_count(5);
+    store.roll_back(second).unwrap();
+    assert_eq!((before, store.row_count(5)), (Some(ROWS_MAX), Some(rows.len())));
+    store.advance_lse(None).unwrap();
+    // All rows are of the epoch that LSE is at: nothing is to do, and the part is where it was.
+    let purged = store.purge(5).unwrap();
+    assert_eq!((purged.rewritten, purged.rows), (false, rows.as_slice()));
+    let load = store.begin().unwrap();
+    store.clear(load, 5).unwrap();
+    store.append(load, 5, &[7]).unwrap();
+    store.commit(load).unwrap();
+    store.advance_lse(None).unwrap();
+    let purged = store.purge(5).unwrap();
+    assert_eq!((purged.rewritten, purged.rows), (true, &[7][..]));
+    let purged = store.purge(4).unwrap();
+    assert_eq!((purged.rewritten, purged.rows), (false, &[][..]));
+}
+
+#[test]
+fn a_saved_store_goes_on() {
+    let (mut store, second, rows) = striped(&[5, 13]);
+    let mut saved = Box::new(*store.words());
+    let again = Store::in_words(&mut saved);
+    assert!(*again == store);
+    assert_eq!(again.commit(second), store.commit(second));
+    assert!(*again == store);
+    let first = again.begin_ro(Epoch::FIRST).unwrap();
+    assert!(again.scan(first, 5).unwrap().eq(rows));
+    let all = again.begin_ro(None).unwrap();
+    assert!(again.scan(all, 5).unwrap().eq(0..ROWS_MAX as u64));
+    assert!(*again != store);
+    let (books, entries, rows) = store.clone().into_parts();
+    assert!(Store::from_parts(books, entries, rows) == store);
+    assert_eq!((store.books(), store.entries(), store.rows()), (&books, &entries, &rows));
+}
+
+/// The words of a store begin with its books, go on with its entries and end with its rows.
+#[test]
+fn words_lie_in_order() {
+    let mut words = Box::new([0; STORE_WORDS]);
+    for (at, word) in words.iter_mut().enumerate() {
+        *word = at as u64;
+    }
+    let store = Store::in_words(&mut words);
+    assert_eq!([store.ec(), store.lce(), store.lse()].map(Epoch::get), [0, 1, 2]);
+    assert_eq!(store.books().partitions.spare, 9_464 / 8 - 1);
+    assert_eq!(store.entries()[0].epoch, 9_464 / 8);
+    assert_eq!(store.rows()[ROWS_MAX * 9 - 1], STORE_WORDS as u64 - 1);
+    assert!(store.words().iter().copied().eq(0..STORE_WORDS as u64));
+}

@@ -1,0 +1,355 @@
+/* The layout that include/nizgulk.h states. Asserted where this is compiled, as C99 or as C++: every size, place and
+ * width, in bytes. Checked where it is run, against the library: a history that leaves another number in almost every
+ * word of the books, compared word by word with books written here by the names of their fields; that the library reads
+ * each of these words; every limit from both sides; every refusal. It ends with status 1 where something differs. */
+#include "nizgulk.h"
+
+#include <stdio.h>
+#include <string.h>
+
+/* An array of -1 elements is an error; one of 1 may be declared again and again. */
+#define FACT(fact) extern char layout_fact[(fact) ? 1 : -1]
+#define SIZE(type, bytes)                                                                                              \
+    struct aligned_##type {                                                                                            \
+        char before;                                                                                                   \
+        struct type it;                                                                                                \
+    };                                                                                                                 \
+    FACT(sizeof(struct type) == (bytes) && offsetof(struct aligned_##type, it) == 8)
+#define FIELD(type, field, place, bytes)                                                                               \
+    FACT(offsetof(struct type, field) == (place) && sizeof(((struct type *)0)->field) == (bytes))
+
+SIZE(nizgulk_clock, 24);
+FIELD(nizgulk_clock, ec, 0, 8);
+FIELD(nizgulk_clock, lce, 8, 8);
+FIELD(nizgulk_clock, lse, 16, 8);
+
+SIZE(nizgulk_rw_txn, 24);
+FIELD(nizgulk_rw_txn, epoch, 0, 8);
+FIELD(nizgulk_rw_txn, waiting, 8, 8);
+FIELD(nizgulk_rw_txn, deps, 16, 8);
+
+SIZE(nizgulk_rw_txns, 776);
+FIELD(nizgulk_rw_txns, at, 0, 32 * 24);
+FIELD(nizgulk_rw_txns, count, 768, 8);
+
+SIZE(nizgulk_ro_txn, 16);
+FIELD(nizgulk_ro_txn, ticket, 0, 8);
+FIELD(nizgulk_ro_txn, epoch, 8, 8);
+
+SIZE(nizgulk_ro_txns, 528);
+FIELD(nizgulk_ro_txns, at, 0, 32 * 16);
+FIELD(nizgulk_ro_txns, count, 512, 8);
+FIELD(nizgulk_ro_txns, next, 520, 8);
+
+SIZE(nizgulk_partition, 24);
+FIELD(nizgulk_partition, area, 0, 8);
+FIELD(nizgulk_partition, rows, 8, 8);
+FIELD(nizgulk_partition, entries, 16, 8);
+
+SIZE(nizgulk_partitions, 200);
+FIELD(nizgulk_partitions, at, 0, 8 * 24);
+FIELD(nizgulk_partitions, spare, 192, 8);
+
+SIZE(nizgulk_state, 9464);
+FIELD(nizgulk_state, clock, 0, 24);
+FIELD(nizgulk_state, writers, 24, 776);
+FIELD(nizgulk_state, deps, 800, 32 * 31 * 8);
+FIELD(nizgulk_state, readers, 8736, 528);
+FIELD(nizgulk_state, partitions, 9264, 200);
+
+SIZE(nizgulk_entry, 24);
+FIELD(nizgulk_entry, epoch, 0, 8);
+FIELD(nizgulk_entry, end, 8, 8);
+FIELD(nizgulk_entry, mark, 16, 8);
+
+SIZE(nizgulk_reply, 9504);
+FIELD(nizgulk_reply, state, 0, 9464);
+FIELD(nizgulk_reply, number, 9464, 8);
+FIELD(nizgulk_reply, value, 9472, 8);
+FIELD(nizgulk_reply, second, 9480, 8);
+FIELD(nizgulk_reply, from, 9488, 8);
+FIELD(nizgulk_reply, count, 9496, 8);
+
+SIZE(nizgulk_seen, 24);
+FIELD(nizgulk_seen, number, 0, 8);
+FIELD(nizgulk_seen, value, 8, 8);
+FIELD(nizgulk_seen, second, 16, 8);
+
+FACT(NIZGULK_ROWS_LENT == 4608 && NIZGULK_ENTRIES_LENT == 576 && NIZGULK_BITMAP_MAX == 64);
+
+/* The store, with an element more than is lent, and what it is to be. */
+static struct nizgulk_entry entries[NIZGULK_ENTRIES_LENT + 1], want_entries[NIZGULK_ENTRIES_LENT + 1];
+static uint64_t rows[NIZGULK_ROWS_LENT + 1], want_rows[NIZGULK_ROWS_LENT + 1];
+static struct nizgulk_reply reply;
+static struct nizgulk_state want, before;
+static int checks, failures;
+
+#define LENT entries, NIZGULK_ENTRIES_LENT, rows, NIZGULK_ROWS_LENT
+
+static void is(const char *what, uint64_t got, uint64_t due)
+{
+    checks++;
+    if (got != due) {
+        failures++;
+        printf("%s is %llu, and not %llu\n", what, (unsigned long long)got, (unsigned long long)due);
+    }
+}
+
+/* The reply's number and value; a refusal has left the books. */
+static void told(const char *what, uint64_t number, uint64_t value)
+{
+    is(what, reply.number, number);
+    is(what, reply.value, value);
+    is(what, reply.second, 0);
+    if (number != NIZGULK_ACCEPTED) {
+        is(what, memcmp(&reply.state, &before, sizeof before) != 0, 0);
+        is(what, reply.from + reply.count, 0);
+    }
+    before = reply.state;
+}
+
+/* All words that differ, at most a few of them named. */
+static void same(const char *what, const void *got, const void *due, size_t bytes)
+{
+    size_t word, shown = 0;
+    for (word = 0; word < bytes / 8; word++) {
+        uint64_t a, b;
+        memcpy(&a, (const char *)got + 8 * word, 8);
+        memcpy(&b, (const char *)due + 8 * word, 8);
+        checks++;
+        if (a != b && shown++ < 4) {
+            printf("%s, byte %lu: %llu, and not %llu\n", what, (unsigned long)(8 * word), (unsigned long long)a,
+                   (unsigned long long)b);
+        }
+    }
+    failures += shown != 0;
+}
+
+/* Appends `count` rows, or clears where there are none, and writes down what that is to leave. */
+static void write_to(size_t p, uint64_t txn, size_t count)
+{
+    struct nizgulk_partition *lot = &want.partitions.at[p];
+    struct nizgulk_entry *entry = &want_entries[NIZGULK_ENTRIES_MAX * lot->area + lot->entries];
+    uint64_t batch[NIZGULK_ROWS_MAX];
+    size_t i;
+    for (i = 0; i < count; i++) {
+        batch[i] = 1000000 * txn + 1000 * p + lot->rows + i;
+        want_rows[NIZGULK_ROWS_MAX * lot->area + lot->rows + i] = batch[i];
+    }
+    lot->rows += count;
+    lot->entries += 1;
+    entry->epoch = txn;
+    entry->end = lot->rows;
+    entry->mark = count == 0;
+    if (count == 0) {
+        reply = nizgulk_clear(reply.state, LENT, txn, p);
+        told("clear", NIZGULK_ACCEPTED, lot->entries);
+    } else {
+        reply = nizgulk_append(reply.state, LENT, batch, count, txn, p);
+        told("append", NIZGULK_ACCEPTED, lot->rows);
+    }
+}
+
+static void all_same(const char *what)
+{
+    printf("%s\n", what);
+    same("books", &reply.state, &want, sizeof want);
+    same("entries", entries, want_entries, sizeof entries);
+    same("rows", rows, want_rows, sizeof rows);
+}
+
+/* 32 loads from 1036 on, of which 1041 waits; 32 pages, tickets 4 to 35 at the epochs 1004 to 1035. */
+static void history(void)
+{
+    uint64_t i, t, p;
+    reply = nizgulk_create(want, LENT, 1001);
+    before = reply.state;
+    told("create", NIZGULK_ACCEPTED, 0);
+    for (p = 0; p < NIZGULK_PARTITIONS_MAX; p++) {
+        want.partitions.at[p].area = p;
+    }
+    for (t = 1; t <= 35; t++) {
+        reply = nizgulk_begin(reply.state, LENT);
+        told("begin", NIZGULK_ACCEPTED, 1000 + t);
+        if (t <= 2) {
+            write_to(2, 1000 + t, 4 - t);
+        }
+        reply = nizgulk_commit(reply.state, LENT, 1000 + t);
+        told("commit", NIZGULK_ACCEPTED, 1000 + t);
+        if (t > NIZGULK_READERS_MAX) {
+            reply = nizgulk_end_ro(reply.state, LENT, t - NIZGULK_READERS_MAX);
+            told("end_ro", NIZGULK_ACCEPTED, NIZGULK_READERS_MAX - 1);
+        }
+        reply = nizgulk_begin_ro(reply.state, LENT, 0);
+        told("begin_ro", NIZGULK_ACCEPTED, t);
+    }
+    reply = nizgulk_advance_lse(reply.state, LENT, 0);
+    told("advance_lse", NIZGULK_ACCEPTED, 1004);
+
+    /* the five rows of partition 2 go to area 8, and get the epoch 1004 */
+    reply = nizgulk_purge(reply.state, LENT, 2);
+    told("purge", NIZGULK_ACCEPTED, 1);
+    is("the part's place", reply.from, 8 * NIZGULK_ROWS_MAX);
+    is("the part's rows", reply.count, 5);
+    memcpy(&want_rows[8 * NIZGULK_ROWS_MAX], &want_rows[2 * NIZGULK_ROWS_MAX], 5 * sizeof *want_rows);
+    want_entries[8 * NIZGULK_ENTRIES_MAX].epoch = 1004;
+    want_entries[8 * NIZGULK_ENTRIES_MAX].end = 5;
+    want_entries[8 * NIZGULK_ENTRIES_MAX].mark = 0;
+    want.partitions.at[2].area = 8;
+    want.partitions.at[2].entries = 1;
+    want.partitions.spare = 2;
+
+    for (i = 0; i < NIZGULK_WRITERS_MAX; i++) {
+        reply = nizgulk_begin(reply.state, LENT);
+        told("begin", NIZGULK_ACCEPTED, 1036 + i);
+        want.writers.at[i].epoch = 1036 + i;
+        want.writers.at[i].deps = i;
+        for (t = 0; t < i; t++) {
+            want.deps[NIZGULK_DEPS_MAX * i + t] = 1036 + t;
+        }
+    }
+    for (p = 0; p < NIZGULK_PARTITIONS_MAX; p++) {
+        for (i = 0; i <= p; i++) {
+            write_to(p, 1036 + (i + p) % 7, p + 2);
+        }
+    }
+    write_to(6, 1050, 0);
+    reply = nizgulk_commit(reply.state, LENT, 1041);
+    told("commit above LCE", NIZGULK_ACCEPTED, 1035);
+    want.writers.at[5].waiting = 1;
+    want.writers.at[5].deps = 0;
+    memset(&want.deps[NIZGULK_DEPS_MAX * 5], 0, 5 * sizeof *want.deps);
+
+    want.clock.ec = 1068;
+    want.clock.lce = 1035;
+    want.clock.lse = 1004;
+    want.writers.count = NIZGULK_WRITERS_MAX;
+    for (i = 0; i < NIZGULK_READERS_MAX; i++) {
+        want.readers.at[i].ticket = 4 + i;
+        want.readers.at[i].epoch = 1004 + i;
+    }
+    want.readers.count = NIZGULK_READERS_MAX;
+    want.readers.next = 36;
+}
+
+/* No word of the books may be all ones: each is read, and by the call that is handed it. */
+static void every_word_is_read(void)
+{
+    struct nizgulk_state spoilt;
+    const uint64_t ones = UINT64_MAX;
+    size_t word;
+    for (word = 0; word < sizeof spoilt / 8; word++) {
+        spoilt = want;
+        memcpy((char *)&spoilt + 8 * word, &ones, 8);
+        reply = nizgulk_advance_lse(spoilt, LENT, 0);
+        is("the number of spoilt books", reply.number, NIZGULK_UNSOUND);
+        is("a difference of refused books", memcmp(&reply.state, &spoilt, sizeof spoilt) != 0, 0);
+    }
+    reply.state = before = want;
+}
+
+static void scans(void)
+{
+    const uint8_t of_page[4] = {0x1f, 0, 0, 0xa5}, of_load[4] = {0x1f, 0x1e, 0, 0xa5};
+    uint8_t bitmap[4] = {0xa5, 0xa5, 0xa5, 0xa5};
+    struct nizgulk_seen seen = nizgulk_scan_ro(want, LENT, bitmap, 2, 4, 2);
+    is("a scan into 2 bytes", seen.number, NIZGULK_SHORT_BITMAP);
+    is("its values", seen.value + seen.second, 0);
+    is("its first byte", bitmap[0], 0xa5);
+    seen = nizgulk_scan_ro(want, LENT, bitmap, 4, 4, 2);
+    is("a scan", seen.number, NIZGULK_ACCEPTED);
+    is("its rows", seen.value, 17);
+    is("its ones", seen.second, 5);
+    is("its bytes", memcmp(bitmap, of_page, 4) != 0, 0);
+    /* partition 2 has the rows 0 to 4 purged, then four each by the loads 1038, 1039 and 1040 */
+    seen = nizgulk_scan_rw(want, LENT, bitmap, 3, 1039, 2);
+    is("a load's scan", seen.number, NIZGULK_ACCEPTED);
+    is("its rows", seen.value, 17);
+    is("its ones", seen.second, 9);
+    is("its bytes", memcmp(bitmap, of_load, 4) != 0, 0);
+}
+
+static void limits(void)
+{
+    uint64_t batch[NIZGULK_ROWS_MAX + 1] = {0};
+    reply = nizgulk_begin(reply.state, LENT);
+    told("load 33", NIZGULK_TXNS_FULL, 0);
+    reply = nizgulk_begin_ro(reply.state, LENT, 0);
+    told("page 33", NIZGULK_TXNS_FULL, 0);
+    reply = nizgulk_begin_ro(reply.state, LENT, 1036);
+    told("a page above LCE", NIZGULK_OUT_OF_RANGE, 0);
+    reply = nizgulk_end_ro(reply.state, LENT, 3);
+    told("a closed page", NIZGULK_NOT_OPEN, 0);
+    reply = nizgulk_commit(reply.state, LENT, 1041);
+    told("a waiting load", NIZGULK_NOT_OPEN, 0);
+    reply = nizgulk_roll_back(reply.state, LENT, 1041);
+    told("a waiting load", NIZGULK_NOT_OPEN, 0);
+    reply = nizgulk_advance_lse(reply.state, LENT, 1005);
+    told("LSE above a page", NIZGULK_BLOCKED, 0);
+    reply = nizgulk_purge(reply.state, LENT, NIZGULK_PARTITIONS_MAX);
+    told("partition 8", NIZGULK_UNKNOWN_PARTITION, 0);
+    reply = nizgulk_append(reply.state, LENT, batch, NIZGULK_ROWS_MAX - 1, 1036, 0);
+    told("row 513", NIZGULK_ROWS_FULL, 0);
+    write_to(0, 1037, NIZGULK_ROWS_MAX - 2);
+    while (want.partitions.at[1].entries < NIZGULK_ENTRIES_MAX) {
+        write_to(1, 1036, 0);
+    }
+    reply = nizgulk_clear(reply.state, LENT, 1036, 1);
+    told("entry 65", NIZGULK_ENTRIES_FULL, 0);
+    reply = nizgulk_begin(reply.state, entries, NIZGULK_ENTRIES_LENT - 1, rows, NIZGULK_ROWS_LENT);
+    told("an entry fewer", NIZGULK_UNSOUND, 0);
+    reply = nizgulk_begin(reply.state, entries, NIZGULK_ENTRIES_LENT + 1, rows, NIZGULK_ROWS_LENT);
+    told("an entry more", NIZGULK_UNSOUND, 0);
+    reply = nizgulk_begin(reply.state, entries, NIZGULK_ENTRIES_LENT, rows, NIZGULK_ROWS_LENT - 1);
+    told("a row fewer", NIZGULK_UNSOUND, 0);
+    reply = nizgulk_begin(reply.state, entries, NIZGULK_ENTRIES_LENT, rows, NIZGULK_ROWS_LENT + 1);
+    told("a row more", NIZGULK_UNSOUND, 0);
+    all_same("after the limits");
+
+    reply = nizgulk_create(reply.state, LENT, NIZGULK_FIRST_EPOCH - 1);
+    told("making new at 0", NIZGULK_OUT_OF_RANGE, 0);
+    reply = nizgulk_create(reply.state, LENT, NIZGULK_FIRST_EPOCH);
+    told("making new at the first epoch", NIZGULK_ACCEPTED, 0);
+    reply = nizgulk_begin_ro(reply.state, LENT, 0);
+    told("the first page", NIZGULK_ACCEPTED, NIZGULK_FIRST_TICKET);
+    reply = nizgulk_create(reply.state, LENT, NIZGULK_LAST_EPOCH + 1);
+    told("making new above the last epoch", NIZGULK_OUT_OF_RANGE, 0);
+    reply = nizgulk_create(reply.state, LENT, NIZGULK_LAST_EPOCH);
+    told("making new at the last epoch", NIZGULK_ACCEPTED, 0);
+    reply = nizgulk_begin(reply.state, LENT);
+    told("the last load", NIZGULK_ACCEPTED, NIZGULK_LAST_EPOCH);
+    reply = nizgulk_begin(reply.state, LENT);
+    told("a load more", NIZGULK_EXHAUSTED, 0);
+    reply.state.readers.next = NIZGULK_LAST_TICKET;
+    reply = nizgulk_begin_ro(reply.state, LENT, 0);
+    told("the last page", NIZGULK_ACCEPTED, NIZGULK_LAST_TICKET);
+    reply = nizgulk_begin_ro(reply.state, LENT, 0);
+    told("a page more", NIZGULK_EXHAUSTED, 0);
+}
+
+static void bytes_of(const char *what, size_t bytes)
+{
+    printf("bytes of %-24s %6lu\n", what, (unsigned long)bytes);
+}
+
+int main(void)
+{
+    memset(entries, 0xa5, sizeof entries);
+    memset(want_entries, 0xa5, sizeof want_entries);
+    memset(rows, 0xa5, sizeof rows);
+    memset(want_rows, 0xa5, sizeof want_rows);
+    history();
+    all_same("after a history");
+    every_word_is_read();
+    scans();
+    limits();
+    bytes_of("the books", sizeof want);
+    bytes_of("the entries", sizeof entries - sizeof *entries);
+    bytes_of("the rows", sizeof rows - sizeof *rows);
+    bytes_of("the store: these three", sizeof want + sizeof entries - sizeof *entries + sizeof rows - sizeof *rows);
+    bytes_of("a reply", sizeof reply);
+    bytes_of("a reply to a scan", sizeof(struct nizgulk_seen));
+    bytes_of("a bitmap, at most", NIZGULK_BITMAP_MAX);
+    printf("%d checks, %d failed\n", checks, failures);
+    return failures != 0;
+}
