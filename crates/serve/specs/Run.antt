@@ -10,6 +10,7 @@ use Rattle.rules.specs.Store.{Store}
 use Rattle.serve.specs.Turn.{heldIn, cameIn, Standing, Turned}
 use Rattle.serve.specs.declared.Ended.{Ended}
 use Rattle.serve.specs.declared.Ended.the-variants.{All}
+use Rattle.serve.specs.declared.turn.Got.{Got}
 use Rattle.serve.specs.declared.turn.Session.{Session}
 
 -- from a store: the bytes that came, those written out, and the session, its buffer and its store after them
@@ -17,7 +18,7 @@ pub data Run (start : Store) : List ℕ → List ℕ → Session → List ℕ �
   opened : (s : Session) (input : List ℕ) → heldIn s input ≡ [] → s .ended ≡ false → Run start [] [] s input start
   next : (came said : List ℕ) (s : Session) (left : List ℕ) (st : Store) → Run start came said s left st
       → s .reads && s .ended ≡ false
-      → (got : ℕ) (input : List ℕ) → take (s .end) input ≡ take (s .end) left
+      → (got : Got) (input : List ℕ) → take (s .end) input ≡ take (s .end) left
       → (r : Session) (now out : List ℕ) (after : Store) → Turned s got input st r now out after
       → Run start (came ++ cameIn s got input) (said ++ take (r .written) out) r now after
 

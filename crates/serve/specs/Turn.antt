@@ -3,7 +3,7 @@
 -- Laws: proofs/Laws/Turn.antt.
 -- Assumes nothing.
 use mathlib.Core.Path.{_≡_}
-use mathlib.Core.Bool.{Bool, true, false, cond}
+use mathlib.Core.Bool.{Bool, true, false, not, _&&_, cond}
 use mathlib.Core.List.{List, [], _∷_, _++_}
 use Prim.Native.Nat.{ℕ, _+_, _≤_, _<_}
 use lib.Dec.{eqb}
@@ -13,6 +13,7 @@ use Rattle.replay.specs.Replay.{answersTo}
 use Rattle.replay.specs.Rooms.{numbersMax, answerMax}
 use Rattle.replay.specs.Lines.{linesIn, keptMax}
 use Rattle.replay.specs.Chunks.{restIn, sessionLines}
+use Rattle.serve.specs.declared.turn.Got.{Got}
 use Rattle.serve.specs.declared.turn.Session.{Session}
 
 -- the buffers have room: for the numbers of every line, for the longest front of a line and its end, for every answer
@@ -27,18 +28,25 @@ abbrev pub heldIn : Session → List ℕ → List ℕ
 heldIn s input = drop (s .from) (take (s .end) input)
 
 -- the bytes that a read brought behind them: none where none were wanted
-abbrev pub cameIn : Session → ℕ → List ℕ → List ℕ
-cameIn s got input = cond (s .reads) (take got (drop (s .end) input)) []
+abbrev pub cameIn : Session → Got → List ℕ → List ℕ
+cameIn s got input = cond (s .reads) (take (got .count) (drop (s .end) input)) []
+
+-- a read that did not fail and brought nothing: the input has ended
+abbrev pub isOver : Got → Bool
+isOver got = not (got .failed) && eqb (got .count) 0
+
+abbrev pub endedBy : Session → Got → Bool
+endedBy s got = cond (s .reads) (isOver got) (s .ended)
 
 -- the last line with its end, unless there is nothing
 abbrev pub closed : List ℕ → List ℕ
 closed [] = []
 closed (b ∷ bs) = (b ∷ bs) ++ 10 ∷ []
 
--- the front of the buffer once a read is taken in
-abbrev pub takenIn : Bool → ℕ → ℕ → List ℕ → List ℕ
-takenIn reads got end input =
-    cond reads (cond (eqb got 0) (closed (take end input)) (take (end + got) input)) (take end input)
+-- the front of the buffer once a read is taken in: so many bytes more behind its `end`, or the input is over
+abbrev pub takenIn : Bool → Bool → ℕ → ℕ → List ℕ → List ℕ
+takenIn reads over count end input =
+    cond reads (cond over (closed (take end input)) (take (end + count) input)) (take end input)
 
 -- ---- what is owed: the answers to all lines of the bytes held and of those yet to come
 
@@ -73,9 +81,9 @@ pub record Answered (held : List ℕ) (before : Store) (r : Session) (input out 
   pub last : restIn held ≡ [] → restIn (heldIn r input) ≡ []
 
 -- of the bytes held and those that came; at the end of the input nothing comes after
-pub record Turned (s : Session) (got : ℕ) (start : List ℕ) (before : Store) (r : Session) (input out : List ℕ)
+pub record Turned (s : Session) (got : Got) (start : List ℕ) (before : Store) (r : Session) (input out : List ℕ)
     (after : Store) : Type 0 where
-  pub ended : r .ended ≡ cond (s .reads) (eqb got 0) (s .ended)
+  pub ended : r .ended ≡ endedBy s got
   pub owing : (more : List ℕ) → (r .ended ≡ true → more ≡ [])
       → owed (heldIn s start ++ cameIn s got start) more before
       ≡ take (r .written) out ++ owed (heldIn r input) more after

@@ -8,6 +8,7 @@ ghost use Rattle.store.specs.Kept.{storeOf};
 ghost use Rattle.serve.specs.Turn.{Roomy, Opened};
 ghost use Rattle.serve.specs.Run.{RunTo};
 ghost use Rattle.serve.specs.Ends.{statusOf, IsStatus};
+use crate::turn::Got;
 use crate::turn::Session;
 use crate::turn::is_done;
 use crate::turn::opening;
@@ -27,28 +28,31 @@ enum Ended {
     Unwritten,
 }
 
-// What a read brought. None and no failure: the input has ended.
-struct Got {
-    failed: bool,
-    count: usize,
-}
-
-// More of standard input, after the bytes held, where more is wanted.
-fn read_more(input: &mut [u8], wanted: bool, held: usize) -> Got
-    requires { ⌜ held ≤ length (now input) ⌝ }
-    ensures { λ r. ⌜ (held + r .count ≤ length (now (input .exit)))
-        × (take held (now (input .exit)) ≡ take held (now (input .entry))) ⌝ }
+// More of standard input, behind the bytes held, where more is wanted.
+fn read_more(s: Session, input: &mut [u8]) -> Got
+    requires { ⌜ s .end ≤ length (now input) ⌝ }
+    ensures { λ r. ⌜ (s .end + r .count ≤ length (now (input .exit)))
+        × (take (s .end) (now (input .exit)) ≡ take (s .end) (now (input .entry))) ⌝ }
 {
-    if !wanted {
+    let held = s.end;
+    if !s.reads {
         return Got {
-            failed: false,
             count: 0,
+            failed: false,
         };
     }
     let got = libc::read(STDIN_FILENO, &mut input[held..]);
     let count = io::count(got, &input[held..]);
     let failed = got < 0;
-    Got { failed, count }
+    Got { count, failed }
+}
+
+// The answers of a turn, to standard output.
+fn send(s: Session, out: &[u8]) -> bool
+    requires { ⌜ s .written ≤ length (now out) ⌝ }
+{
+    let written = s.written;
+    io::write_all(STDOUT_FILENO, &out[..written])
 }
 
 // How a session ended, and how it was left.
@@ -73,17 +77,16 @@ fn serve(
 {
     let mut s = first;
     while s.turns > 0 {
-        let got = read_more(input, s.reads, s.end);
+        let got = read_more(s, input);
         if got.failed {
             return Served {
                 ended: Ended::Unread,
                 session: s,
             };
         }
-        let t = turn(s, got.count, input, rows, numbers, out);
+        let t = turn(s, got, input, rows, numbers, out);
         s = t;
-        let written = s.written;
-        if !io::write_all(STDOUT_FILENO, &out[..written]) {
+        if !send(s, out) {
             return Served {
                 ended: Ended::Unwritten,
                 session: s,

@@ -3,11 +3,10 @@
 ghost use mathlib.Core.Path.{_≡_};
 ghost use mathlib.Core.Bool.{true, _&&_, cond};
 ghost use Prim.Native.Nat.{_+_, _-_, _≤_, _<_};
-ghost use lib.Dec.{eqb};
 ghost use lib.ListN.{length, take, drop};
 ghost use Rattle.store.specs.Kept.{storeOf};
 ghost use Rattle.replay.specs.Start.{started};
-ghost use Rattle.serve.specs.Turn.{Roomy, Standing, Opened, Answered, Turned, takenIn};
+ghost use Rattle.serve.specs.Turn.{Roomy, Standing, Opened, Answered, Turned, takenIn, isOver};
 use lent::Table;
 use rules::State;
 
@@ -23,6 +22,12 @@ pub struct Session {
     pub reads: bool,
     pub ended: bool,
     pub turns: u64,
+}
+
+// What a read brought: so many bytes, or it failed. None and no failure: the input has ended.
+pub struct Got {
+    pub count: usize,
+    pub failed: bool,
 }
 
 // Nothing is held, and the store is made new at 1.
@@ -52,25 +57,34 @@ pub(crate) fn is_done(s: Session) -> bool
     if s.reads { s.ended } else { false }
 }
 
-// Where a read brings nothing the input has ended; otherwise as before.
-fn has_ended(reads: bool, ended: bool, got: usize) -> bool
-    ensures { λ r. ⌜ r ≡ cond reads (eqb got 0) ended ⌝ }
+fn is_over(got: Got) -> bool
+    ensures { λ r. ⌜ r ≡ isOver got ⌝ }
 {
-    if reads { got == 0 } else { ended }
+    if got.failed {
+        return false;
+    }
+    got.count == 0
 }
 
-// The bytes held and those that a read brought behind them. The last line may have no end: where nothing came and some
-// bytes are held, a line end is put behind them. Answers where they end.
-fn take_in(input: &mut [u8], reads: bool, end: usize, got: usize) -> usize
-    requires { ⌜ (end + got ≤ length (now input)) × (reads ≡ true → end < length (now input)) ⌝ }
-    ensures { λ r. ⌜ take r (now (input .exit)) ≡ takenIn reads got end (now (input .entry)) ⌝ }
-    ensures { λ r. ⌜ r ≡ length (takenIn reads got end (now (input .entry))) ⌝ }
+// Only where more is wanted does a read say whether the input has ended.
+fn has_ended(reads: bool, ended: bool, over: bool) -> bool
+    ensures { λ r. ⌜ r ≡ cond reads over ended ⌝ }
+{
+    if reads { over } else { ended }
+}
+
+// The bytes held and those that a read brought behind them. The last line may have no end: where the input is over and
+// some bytes are held, a line end is put behind them. Answers where they end.
+fn take_in(input: &mut [u8], reads: bool, over: bool, end: usize, count: usize) -> usize
+    requires { ⌜ (end + count ≤ length (now input)) × (reads ≡ true → end < length (now input)) ⌝ }
+    ensures { λ r. ⌜ take r (now (input .exit)) ≡ takenIn reads over count end (now (input .entry)) ⌝ }
+    ensures { λ r. ⌜ r ≡ length (takenIn reads over count end (now (input .entry))) ⌝ }
 {
     if !reads {
         return end;
     }
-    if 0 < got {
-        return end + got;
+    if !over {
+        return end + count;
     }
     if end == 0 {
         return 0;
@@ -130,10 +144,10 @@ fn answer(
     }
 }
 
-// A turn: `got` bytes came behind those held, where more was wanted; none, and the input has ended.
+// A turn: what a read brought, where more was wanted, stands behind the bytes held.
 pub(crate) fn turn(
     s: Session,
-    got: usize,
+    got: Got,
     input: &mut [u8],
     rows: &mut [u64],
     numbers: &mut [u64],
@@ -141,12 +155,13 @@ pub(crate) fn turn(
 ) -> Session
     requires { ⌜ Roomy (now numbers) (now input) (now out) ⌝ }
     requires { ⌜ Standing s (now input) ⌝ }
-    requires { ⌜ (s .end + got ≤ length (now input)) × (0 < s .turns) ⌝ }
+    requires { ⌜ (s .end + got .count ≤ length (now input)) × (0 < s .turns) ⌝ }
     ensures { λ r. ⌜ Turned s got (now (input .entry)) (storeOf (s .state) (now (rows .entry)) (s .table .at))
         r (now (input .exit)) (now (out .exit)) (storeOf (r .state) (now (rows .exit)) (r .table .at)) ⌝ }
     ensures { λ r. ⌜ r .turns + 1 ≡ s .turns ⌝ }
 {
-    let end = take_in(input, s.reads, s.end, got);
-    let ended = has_ended(s.reads, s.ended, got);
+    let over = is_over(got);
+    let end = take_in(input, s.reads, over, s.end, got.count);
+    let ended = has_ended(s.reads, s.ended, over);
     answer(s, end, ended, input, rows, numbers, out)
 }

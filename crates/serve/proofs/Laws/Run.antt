@@ -6,7 +6,6 @@ use mathlib.Core.Bool.{Bool, true, false, _&&_, cond}
 use mathlib.Core.List.{List, [], _∷_, _++_, append-assoc, append-nil}
 use Prim.Native.Nat.{ℕ}
 use native.Mathlib.Omega.{arith}
-use lib.Dec.{eqb}
 use lib.ListN.{take, drop}
 use Rattle.lists.proofs.Laws.Bools.{split, and-left, and-right, and-both}
 use Rattle.lists.proofs.Laws.Tests.{no-proof}
@@ -14,15 +13,16 @@ use Rattle.rules.specs.Store.{Store}
 use Rattle.replay.specs.Replay.{answersTo}
 use Rattle.replay.specs.Lines.{linesIn, bytesOf}
 use Rattle.replay.specs.Chunks.{restIn, sessionLines}
-use Rattle.serve.specs.Turn.{heldIn, cameIn, owed, Standing, Opened, Turned}
+use Rattle.serve.specs.Turn.{heldIn, cameIn, endedBy, owed, Standing, Opened, Turned}
 use Rattle.serve.specs.Run.{Run, opened, next, Reached, RunTo}
 use Rattle.serve.specs.declared.Ended.the-variants.{All, Unread, Unwritten}
+use Rattle.serve.specs.declared.turn.Got.{Got}
 use Rattle.serve.specs.declared.turn.Session.{Session}
 use Rattle.serve.proofs.Laws.Turn.{front-rest, opened-none}
 
 -- once the input has ended nothing comes
-none-came : (s : Session) (got : ℕ) (input more : List ℕ) (ends : Bool) → s .reads && s .ended ≡ false
-    → ends ≡ cond (s .reads) (eqb got 0) (s .ended) → (ends ≡ true → more ≡ []) → s .ended ≡ true
+none-came : (s : Session) (got : Got) (input more : List ℕ) (ends : Bool) → s .reads && s .ended ≡ false
+    → ends ≡ endedBy s got → (ends ≡ true → more ≡ []) → s .ended ≡ true
     → cameIn s got input ++ more ≡ []
 none-came s got input more ends live e m y =
     split (s .reads) (λ t. no-proof (sym live ∙ and-both (s .reads) (s .ended) t y))
@@ -67,7 +67,7 @@ module _ (start : Store) (s : Session) (input : List ℕ) (st : Store) (k : Reac
   reached-read = record { came = k .came; said = k .said; left = k .left; run = k .run; same = same ∙ k .same }
 
   -- and a turn is taken
-  pub reached-next : s .reads && s .ended ≡ false → (got : ℕ) (r : Session) (last out : List ℕ) (after : Store)
+  pub reached-next : s .reads && s .ended ≡ false → (got : Got) (r : Session) (last out : List ℕ) (after : Store)
       → Turned s got now st r last out after → Reached start r last after
   reached-next live got r last out after t = record {
       came = k .came ++ cameIn s got now; said = k .said ++ take (r .written) out; left = last;

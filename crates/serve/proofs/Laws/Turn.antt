@@ -3,7 +3,7 @@
 -- answering leaves; where the bytes held lie; a read taken in; a turn.
 -- Assumes nothing.
 use mathlib.Core.Path.{_≡_, refl, sym, _∙_, ap}
-use mathlib.Core.Bool.{Bool, true, false, cond}
+use mathlib.Core.Bool.{Bool, true, false, not, cond}
 use mathlib.Core.List.{List, [], _∷_, _++_, append-assoc, append-nil}
 use Prim.Native.Nat.{ℕ, zero, suc, _+_, _-_, _≤_, _<_}
 use native.Mathlib.Omega.{arith}
@@ -13,7 +13,7 @@ use lib.ListN.{length, take, drop, set, length-append, length-take, drop-of-leng
 use lib.Seq.{length-take-le, take-nil, take-take, take-add, take-append-seam, take-suc-set, drop-drop}
 use borrow.Author.Tests.{eqb-true}
 use Rattle.lists.specs.Lists.{over}
-use Rattle.lists.proofs.Laws.Bools.{split}
+use Rattle.lists.proofs.Laws.Bools.{split, and-right}
 use Rattle.lists.proofs.Laws.Tests.{no-proof}
 use Rattle.lists.proofs.Laws.Parts.{drop-take, length-part, length-over}
 use Rattle.rules.specs.Store.{Store}
@@ -24,7 +24,9 @@ use Rattle.replay.proofs.Laws.Chunks.{chunks-joined}
 use Rattle.replay.proofs.Laws.Flushes.{flush-answers, flush-after, flush-bytes, flush-none}
 use Rattle.replay.proofs.Laws.Lines.{used-within, written-within}
 use Rattle.replay.proofs.Laws.Rest.{kept-within}
-use Rattle.serve.specs.Turn.{Roomy, heldIn, cameIn, closed, takenIn, owed, Standing, Opened, Answered, Turned}
+use Rattle.serve.specs.Turn.{Roomy, heldIn, cameIn, isOver, endedBy, closed, takenIn, owed, Standing, Opened,
+    Answered, Turned}
+use Rattle.serve.specs.declared.turn.Got.{Got}
 use Rattle.serve.specs.declared.turn.Session.{Session}
 
 -- ---- bytes without a line end
@@ -230,18 +232,18 @@ stands-same s input next n e k = record {
 
 -- ---- a read taken in
 
-module _ (s : Session) (got : ℕ) (input : List ℕ) (stands : Standing s input) where
-  abbrev taken : List ℕ
-  taken = drop (s .from) (takenIn (s .reads) got (s .end) input)
+module _ (s : Session) (got : Got) (input : List ℕ) (stands : Standing s input) where
+  abbrev front-of : List ℕ
+  front-of = takenIn (s .reads) (isOver got) (got .count) (s .end) input
 
-  abbrev hasEnded : Bool
-  hasEnded = cond (s .reads) (eqb got 0) (s .ended)
+  abbrev taken : List ℕ
+  taken = drop (s .from) front-of
 
   pub record Taken : Type 0 where
-    pub owing : (more : List ℕ) → (hasEnded ≡ true → more ≡ []) → (st : Store)
+    pub owing : (more : List ℕ) → (endedBy s got ≡ true → more ≡ []) → (st : Store)
         → owed (heldIn s input ++ cameIn s got input) more st ≡ owed taken more st
-    pub last : hasEnded ≡ true → restIn taken ≡ []
-    pub order : s .from ≤ length (takenIn (s .reads) got (s .end) input)
+    pub last : endedBy s got ≡ true → restIn taken ≡ []
+    pub order : s .from ≤ length front-of
 
   -- nothing was wanted
   taken-not : s .reads ≡ false → Taken
@@ -262,8 +264,8 @@ module _ (s : Session) (got : ℕ) (input : List ℕ) (stands : Standing s input
     no-lines = rw is-front at (stands .lines t)
 
     -- nothing came
-    taken-end : eqb got 0 ≡ true → Taken
-    taken-end e = let z = eqb-true got 0 e in record {
+    taken-end : isOver got ≡ true → Taken
+    taken-end e = let z = eqb-true (got .count) 0 (and-right (not (got .failed)) (eqb (got .count) 0) e) in record {
       owing = λ more m st. let n = m (rw (t, e)) in
           rw (n, t, e, z, stands .front t .0, append-nil whole, append-nil whole, append-nil (closed whole))
           (ap (λ (l : List (List ℕ)). answersTo l st) (sym (closed-lines whole no-lines)));
@@ -271,20 +273,20 @@ module _ (s : Session) (got : ℕ) (input : List ℕ) (stands : Standing s input
       order = omega (arith, stands .front t .0);
     }
 
-    taken-more : eqb got 0 ≡ false → Taken
+    taken-more : isOver got ≡ false → Taken
     taken-more e = record {
-      owing = λ more _ st. rw (t, e, stands .front t .0, take-add (s .end) got input);
+      owing = λ more _ st. rw (t, e, stands .front t .0, take-add (s .end) (got .count) input);
       last = λ y. no-proof (sym (rw (t, e)) ∙ y);
       order = omega (arith, stands .front t .0);
     }
 
   pub take-taken : Taken
-  take-taken = split (s .reads) (λ t. split (eqb got 0) (taken-end t) (taken-more t)) taken-not
+  take-taken = split (s .reads) (λ t. split (isOver got) (taken-end t) (taken-more t)) taken-not
 
   -- ---- a turn
 
   pub turned : (st : Store) (r : Session) (now out : List ℕ) (after : Store) (held : List ℕ) → held ≡ taken
-      → r .ended ≡ hasEnded → Answered held st r now out after → Turned s got input st r now out after
+      → r .ended ≡ endedBy s got → Answered held st r now out after → Turned s got input st r now out after
   turned st r now out after held is e a = let k = take-taken in record {
       ended = e;
       owing = λ more m. k .owing more (rw e at m) st ∙ (ap (λ (l : List ℕ). owed l more st) (sym is) ∙ a .owing more);

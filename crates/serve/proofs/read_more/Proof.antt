@@ -6,7 +6,7 @@ use Rattle.serve.proofs.read_more.Statement.{statement}
 use Rattle.serve.proofs.read_more.Tie as tie
 
 returns-2 : tie.Need-returns-2
-returns-2 c = let s = c .before .before .before .before .before .before .before .before .before in
+returns-2 c = let s = c .before .before .before .before .before .before .before .before .before .before in
     (search needs, take-at _ _ _ (length-take-le _ _ (s .pre)))
 
 pub read-more-spec : {M : Type 1} → statement M

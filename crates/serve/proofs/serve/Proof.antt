@@ -7,7 +7,6 @@ use mathlib.Core.List.{List}
 use Prim.Native.Nat.{ℕ}
 use native.Mathlib.Omega.{arith}
 use lib.ListN.{length}
-use lib.Seq.{length-take-le}
 use borrow.Author.Needs.{needs}
 use Rattle.lists.proofs.Laws.Bools.{and-false}
 use Rattle.store.specs.Kept.{storeOf}
@@ -45,7 +44,7 @@ Turn = tie.After-turn Inv-loop μ-loop
 abbrev M : Turn → Read
 M t = t .before .before .before .before .before .before .before .before
 
-abbrev W : tie.After-write-all Inv-loop μ-loop → Turn
+abbrev W : tie.After-send Inv-loop μ-loop → Turn
 W w = w .before .before .before .before .before .before .before .before .before .before
 
 -- each buffer is as long as it was
@@ -53,7 +52,7 @@ lengths : (t : Turn) → let a = S (M t) .args in let z = t .turn .last in
     (length (z .1 .1 .1 .0) ≡ length (a .rows .now)) × (length (z .1 .1 .1 .1 .0) ≡ length (a .numbers .now))
     × (length (z .1 .1 .0) ≡ length (a .input .now)) × (length (z .1 .1 .1 .1 .1 .0) ≡ length (a .out .now))
 lengths t = let y = t .turn .kept in let v = L (M t) .loop .inv in
-    (y .1 .1 .1 .0 ∙ v .0, y .1 .1 .1 .1 .0 ∙ v .1, y .1 .1 .0 ∙ (M t .read-more .kept .0 ∙ v .2),
+    (y .1 .1 .1 .0 ∙ v .0, y .1 .1 .1 .1 .0 ∙ v .1, y .1 .1 .0 ∙ (M t .read-more .kept .1 .0 ∙ v .2),
      y .1 .1 .1 .1 .1 .0 ∙ v .3)
 
 loop-holds : tie.Need-loop-holds Inv-loop μ-loop
@@ -68,9 +67,9 @@ turn-requires : tie.Need-turn-requires Inv-loop μ-loop
 turn-requires c κs = let m = c .before .before .before .before .before .before .before in
     let v = L m .loop .inv in let p = S m .pre .0 in let q = m .read-more in
     (record { for-numbers = omega (arith, p .for-numbers, v .1);
-        for-line = omega (arith, p .for-line, v .2, q .kept .0);
+        for-line = omega (arith, p .for-line, v .2, q .kept .1 .0);
         for-answer = omega (arith, p .for-answer, v .3) },
-     (stands-same (L m .loop .s) (L m .loop .input) (q .last .0) (q .kept .0) (q .ensures .1) (v .4),
+     (stands-same (L m .loop .s) (L m .loop .input) (q .last .1 .0) (q .kept .1 .0) (q .ensures .1) (v .4),
       (q .ensures .0, m .before .before .if1 .taken)))
 
 -- what a turn leaves is reached
@@ -78,12 +77,12 @@ reached : (t : Turn) → let a = S (M t) .args in let z = t .turn .last in let r
     Reached (storeOf (a .first .state) (a .rows .now) (a .first .table .at)) r (z .1 .1 .0)
       (storeOf (r .state) (z .1 .1 .1 .0) (r .table .at))
 reached t = let m = M t in let v = L m .loop in
-    reached-next _ (v .s) (v .input) _ (v .inv .6) (m .read-more .last .0) (m .read-more .ensures .1) (v .inv .5)
+    reached-next _ (v .s) (v .input) _ (v .inv .6) (m .read-more .last .1 .0) (m .read-more .ensures .1) (v .inv .5)
     _ _ _ _ _ (t .turn .ensures .0)
 
 returns : tie.Need-returns Inv-loop μ-loop
 returns c = let m = c .before .before .before in let v = L m .loop in
-    run-unread _ (v .s) _ _ (reached-read _ (v .s) (v .input) _ (v .inv .6) (m .read-more .last .0)
+    run-unread _ (v .s) _ _ (reached-read _ (v .s) (v .input) _ (v .inv .6) (m .read-more .last .1 .0)
       (m .read-more .ensures .1))
 
 returns-2 : tie.Need-returns-2 Inv-loop μ-loop
@@ -113,14 +112,11 @@ serve-spec =
     read-more-requires
     (λ c. search needs)
     (λ c. search needs)
-    (λ c. let m = c .before .before .before in m .read-more .kept .0 ∙ L m .loop .inv .2)
+    (λ c. let m = c .before .before .before in m .read-more .kept .1 .0 ∙ L m .loop .inv .2)
     (λ c. search needs)
     returns
     turn-requires
-    (λ c. c .before .before .before .before .before .before .before .before .turn .ensures .0 .size)
-    (λ c. sym (length-take-le _ _
-      (c .before .before .before .before .before .before .before .before .before .turn .ensures .0 .size)))
-    (λ c κs. search needs)
+    (λ c κs. c .before .before .before .before .before .before .before .before .before .turn .ensures .0 .size)
     (λ c. lengths (W (c .before)) .0)
     (λ c. lengths (W (c .before)) .1)
     (λ c. lengths (W (c .before)) .2)
