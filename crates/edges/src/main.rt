@@ -4,9 +4,6 @@
 use lent::Table;
 use libc::STDIN_FILENO;
 use libc::STDOUT_FILENO;
-use line::limits::ANSWER_MAX;
-use line::limits::BITMAP_MAX;
-use line::limits::NUMBERS_MAX;
 use places::in_use;
 use reply::ReplyWords;
 use reply::VALUES_MAX;
@@ -17,6 +14,9 @@ use rules::ManagerCall;
 use rules::Reader;
 use rules::State;
 use rules::limits::ROWS_LENT;
+use session_line::limits::ANSWER_MAX;
+use session_line::limits::BITMAP_MAX;
+use session_line::limits::NUMBERS_MAX;
 use session_text::Parsed;
 use session_text::print_line;
 
@@ -351,8 +351,8 @@ fn answer(
     out: &mut [u8],
 ) -> Said {
     let mut bitmap = [0u8; BITMAP_MAX];
-    let command = line::turn::command_of(parsed);
-    let batch = line::turn::batch_of(numbers, parsed);
+    let command = session_line::turn::command_of(parsed);
+    let batch = session_line::turn::batch_of(numbers, parsed);
     let done = dispatch::turn(state, table, rows, batch, &mut bitmap, command);
     let answer = done.answer;
     let s = done.state;
@@ -361,7 +361,7 @@ fn answer(
         state: s,
         answer: answer,
     };
-    let size = line::turn::say(rows, numbers, out, bitmap, parsed, kept);
+    let size = session_line::turn::say(rows, numbers, out, bitmap, parsed, kept);
     Said {
         state: s,
         table: t,

@@ -25,9 +25,9 @@ use Rattle.session_text.specs.Grammar.{parsed}
 use Rattle.session_text.specs.Print.{lineOf, printed}
 use Rattle.session_text.specs.declared.Parsed.the-variants.{Call as Is}
 use Rattle.store.specs.Kept.{storeOf}
-use Rattle.line.specs.Session.{bits, callsOf, afterLines, answerTo}
+use Rattle.session_line.specs.Session.{bits, callsOf, afterLines, answerTo}
 use Rattle.replay.specs.Start.{started}
-use Rattle.line.proofs.Laws.Session.{lines-run}
+use Rattle.session_line.proofs.Laws.Session.{lines-run}
 use Rattle.replay.proofs.Laws.Start.{start-accepted}
 
 -- 64 bytes have a bit for each row of a partition

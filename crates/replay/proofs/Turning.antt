@@ -42,15 +42,15 @@ use Rattle.store.proofs.Types.{kept}
 use Rattle.walks.proofs.Lend.{Lent, on-list, again, token, shr, refOf, valOf, held, SharedOut, shares, back-shared}
 use Rattle.walks.proofs.Lend.{calling, Met}
 use Rattle.walks.proofs.Loans.{Loan, writing, reading, copying, nows, gathers, scatters, lend-call}
-use Rattle.line.specs.Turn.{cursorAfter, lineAt, parsedIn, wordsIn, rowsIn, saidIn, shownOf}
-use Rattle.line.specs.declared.turn.Cursor.{Cursor}
+use Rattle.session_line.specs.Turn.{cursorAfter, lineAt, parsedIn, wordsIn, rowsIn, saidIn, shownOf}
+use Rattle.session_line.specs.declared.turn.Cursor.{Cursor}
 use Rattle.replay.proofs.Types.{parsed, cursor, bitmap}
-use Rattle.line.proofs.turn.read_line as read-line
-use Rattle.line.proofs.turn.read_line.Symbol as read-line-def
-use Rattle.line.proofs.turn.batch_of as batch-of
-use Rattle.line.proofs.turn.batch_of.Symbol as batch-of-def
-use Rattle.line.proofs.turn.answer_line as answer-line
-use Rattle.line.proofs.turn.answer_line.Symbol as answer-line-def
+use Rattle.session_line.proofs.turn.read_line as read-line
+use Rattle.session_line.proofs.turn.read_line.Symbol as read-line-def
+use Rattle.session_line.proofs.turn.batch_of as batch-of
+use Rattle.session_line.proofs.turn.batch_of.Symbol as batch-of-def
+use Rattle.session_line.proofs.turn.answer_line as answer-line
+use Rattle.session_line.proofs.turn.answer_line.Symbol as answer-line-def
 
 module _ {R : RattleType} where
   abbrev pub Shared : Lent R → Fml

@@ -11,8 +11,8 @@ use denote.Enum.Laws as EL
 use Rattle.session_text.proofs.Parsed as ParsedT
 use Rattle.session_text.proofs.Parsed.Laws as ParsedL
 use Rattle.walks.proofs.Shown.{Shown}
-use Rattle.line.proofs.turn.Cursor as CursorT
-use Rattle.line.proofs.turn.Cursor.Laws as CursorL
+use Rattle.session_line.proofs.turn.Cursor as CursorT
+use Rattle.session_line.proofs.turn.Cursor.Laws as CursorL
 use Rattle.replay.proofs.lines.Replayed as ReplayedT
 use Rattle.replay.proofs.lines.Replayed.Laws as ReplayedL
 

@@ -5,8 +5,8 @@ use mathlib.Core.List.{List, [], _∷_, _++_}
 use Prim.Native.Nat.{ℕ}
 use lib.ListN.{take, drop}
 use Rattle.rules.specs.Store.{Store}
-use Rattle.line.specs.Session.{afterLines, answersTo}
-use Rattle.line.specs.Rest.{keptMax}
+use Rattle.session_line.specs.Session.{afterLines, answersTo}
+use Rattle.session_line.specs.Rest.{keptMax}
 use Rattle.replay.specs.Lines.{linesIn, bytesOf}
 
 -- what stands after the last line end

@@ -9,8 +9,8 @@ use Prim.Native.Nat.{ℕ, _+_, _-_}
 use lib.ListN.{length}
 use lib.Dec.{leb, eqb}
 use Rattle.rules.specs.Store.{Store}
-use Rattle.line.specs.Session.{afterLine, answerTo}
-use Rattle.line.specs.Rooms.{numbersMax, answerMax, heldAfter}
+use Rattle.session_line.specs.Session.{afterLine, answerTo}
+use Rattle.session_line.specs.Rooms.{numbersMax, answerMax, heldAfter}
 
 -- ---- whole lines, each without its end: what stands after the last line end is none
 

@@ -3,7 +3,7 @@
 use mathlib.Core.List.{List}
 use Rattle.rules.specs.declared.Entry.{Entry}
 use Rattle.rules.specs.declared.State.{State}
-use Rattle.line.specs.declared.turn.Cursor.{Cursor}
+use Rattle.session_line.specs.declared.turn.Cursor.{Cursor}
 use Rattle.replay.specs.declared.lines.Replayed.{Replayed}
 
 abbrev pub replayedOf : State → List Entry → Cursor → Replayed

@@ -9,9 +9,9 @@ use Prim.Native.Nat.{ℕ, _+_, _≤_, _<_}
 use lib.Dec.{eqb}
 use lib.ListN.{length, take, drop}
 use Rattle.rules.specs.Store.{Store}
-use Rattle.line.specs.Session.{answersTo}
-use Rattle.line.specs.Rooms.{numbersMax, answerMax}
-use Rattle.line.specs.Rest.{keptMax}
+use Rattle.session_line.specs.Session.{answersTo}
+use Rattle.session_line.specs.Rooms.{numbersMax, answerMax}
+use Rattle.session_line.specs.Rest.{keptMax}
 use Rattle.replay.specs.Lines.{linesIn}
 use Rattle.replay.specs.Chunks.{restIn, sessionLines}
 use Rattle.serve.specs.declared.turn.Got.{Got}

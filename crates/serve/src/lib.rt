@@ -16,8 +16,8 @@ use crate::turn::turn;
 use libc::STDERR_FILENO;
 use libc::STDIN_FILENO;
 use libc::STDOUT_FILENO;
-use line::limits::NUMBERS_MAX;
 use rules::limits::ROWS_LENT;
+use session_line::limits::NUMBERS_MAX;
 
 mod turn;
 

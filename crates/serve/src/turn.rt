@@ -120,7 +120,7 @@ fn answer(
     let entries = r.table;
     let used = r.used;
     if used == 0 {
-        let held = line::rest::keep_rest(input, from, end);
+        let held = session_line::rest::keep_rest(input, from, end);
         return Session {
             state: next,
             table: entries,

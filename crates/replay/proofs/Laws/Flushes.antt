@@ -14,10 +14,10 @@ use borrow.Author.Tests.{ltb-true, ltb-false, le-leb}
 use Rattle.lists.proofs.Laws.Bools.{split}
 use Rattle.rules.specs.Store.{Store}
 use Rattle.session_text.specs.Lines.{beforeEnd}
-use Rattle.line.specs.Session.{afterLine, answerTo, afterLines, answersTo}
+use Rattle.session_line.specs.Session.{afterLine, answerTo, afterLines, answersTo}
 use Rattle.replay.specs.Lines.{linesIn, bytesOf, answered, replayed}
-use Rattle.line.specs.Rooms.{numbersMax, answerMax}
-use Rattle.line.proofs.Laws.Session.{after-append, answers-append}
+use Rattle.session_line.specs.Rooms.{numbersMax, answerMax}
+use Rattle.session_line.proofs.Laws.Session.{after-append, answers-append}
 use Rattle.replay.proofs.Laws.Lines.{first-line, no-line, end-le, answered-next, bytes-append}
 
 first-drop : (bs m : List ℕ) (rest : List (List ℕ)) → linesIn bs ≡ m ∷ rest → linesIn (drop (length m + 1) bs) ≡ rest

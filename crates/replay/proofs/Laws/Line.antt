@@ -26,10 +26,10 @@ use Rattle.session_text.specs.declared.Parsed.the-variants.{Call as Is, Bad}
 use Rattle.store.specs.Kept.{storeOf}
 use Rattle.rules.specs.declared.Kept.{Kept}
 use Rattle.dispatch.specs.Dispatch.{bitmapLeft, Did}
-use Rattle.line.specs.Session.{bits, callIn, rowsShown, afterLine, answerTo}
-use Rattle.line.specs.Rooms.{numbersMax, answerMax, heldAfter}
-use Rattle.line.specs.Shown.{shownIn, fitting}
-use Rattle.line.proofs.Laws.Rooms.{fit-line, room-parsed, rows-batch, shown-few, printed-few}
+use Rattle.session_line.specs.Session.{bits, callIn, rowsShown, afterLine, answerTo}
+use Rattle.session_line.specs.Rooms.{numbersMax, answerMax, heldAfter}
+use Rattle.session_line.specs.Shown.{shownIn, fitting}
+use Rattle.session_line.proofs.Laws.Rooms.{fit-line, room-parsed, rows-batch, shown-few, printed-few}
 
 -- ---- the rows shown
 

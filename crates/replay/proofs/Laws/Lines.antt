@@ -18,11 +18,11 @@ use Rattle.rules.specs.Store.{Store}
 use Rattle.session_text.specs.Lines.{sizeIn, beforeEnd, lineEnd}
 use Rattle.session_text.proofs.Laws.Lines.{end-past, end-within, end-none, end-here, end-later}
 use Rattle.lists.proofs.Laws.Over.{over-nil, over-append, over-tail}
-use Rattle.line.specs.Session.{afterLine, answerTo, afterLines, answersTo}
-use Rattle.line.specs.Rooms.{numbersMax, answerMax, heldAfter}
+use Rattle.session_line.specs.Session.{afterLine, answerTo, afterLines, answersTo}
+use Rattle.session_line.specs.Rooms.{numbersMax, answerMax, heldAfter}
 use Rattle.replay.specs.Lines.{onLine, linesIn, bytesOf, answered, replayed, heldLines}
-use Rattle.line.proofs.Laws.Rooms.{answer-few}
-use Rattle.line.proofs.Laws.Turn.{tail-all, tail-whole}
+use Rattle.session_line.proofs.Laws.Rooms.{answer-few}
+use Rattle.session_line.proofs.Laws.Turn.{tail-all, tail-whole}
 use Rattle.replay.proofs.Laws.Line.{Said}
 
 -- ---- the first line: the bytes before the first line end

@@ -1,4 +1,4 @@
--- Laws of one turn of the loop over lines. Definitions: line/specs/Turn.antt.
+-- Laws of one turn of the loop over lines. Definitions: session_line/specs/Turn.antt.
 -- In order: a line as the turn takes it; the loop, with what holds at each turn, at its start,
 -- from one turn to the next, and at its end.
 -- Assumes nothing.
@@ -27,12 +27,12 @@ use Rattle.store.specs.Kept.{storeOf}
 use Rattle.rules.specs.declared.Kept.{Kept}
 use Rattle.dispatch.specs.Dispatch.{Did}
 use Rattle.dispatch.proofs.Nothing.{purge-none}
-use Rattle.line.specs.Session.{bits}
-use Rattle.line.specs.Rooms.{numbersMax, answerMax}
+use Rattle.session_line.specs.Session.{bits}
+use Rattle.session_line.specs.Rooms.{numbersMax, answerMax}
 use Rattle.replay.specs.Lines.{linesIn}
-use Rattle.line.specs.Turn.{roomFor, cursorAt, cursorAfter, lineAt, parsedIn, wordsIn, commandIn, rowsIn}
-use Rattle.line.specs.Turn.{saidIn, shownOf}
-use Rattle.line.specs.declared.turn.Cursor.{Cursor}
+use Rattle.session_line.specs.Turn.{roomFor, cursorAt, cursorAfter, lineAt, parsedIn, wordsIn, commandIn, rowsIn}
+use Rattle.session_line.specs.Turn.{saidIn, shownOf}
+use Rattle.session_line.specs.declared.turn.Cursor.{Cursor}
 use Rattle.replay.proofs.Laws.Line.{Said, line-called, line-bad}
 use Rattle.replay.proofs.Laws.Lines.{lines-some, Rest, rest-start, Done, done-short, done-none, done-full}
 use Rattle.replay.proofs.Laws.Lines.{rest-made}

@@ -10,7 +10,7 @@ use lib.ListN.{take, drop}
 use Rattle.lists.proofs.Laws.Bools.{split, and-left, and-right, and-both}
 use Rattle.lists.proofs.Laws.Tests.{no-proof}
 use Rattle.rules.specs.Store.{Store}
-use Rattle.line.specs.Session.{answersTo}
+use Rattle.session_line.specs.Session.{answersTo}
 use Rattle.replay.specs.Lines.{linesIn, bytesOf}
 use Rattle.replay.specs.Chunks.{restIn, sessionLines}
 use Rattle.serve.specs.Turn.{heldIn, cameIn, endedBy, owed, Standing, Opened, Turned}

@@ -17,14 +17,14 @@ use Rattle.lists.proofs.Laws.Bools.{split, and-right}
 use Rattle.lists.proofs.Laws.Tests.{no-proof}
 use Rattle.lists.proofs.Laws.Parts.{drop-take, length-part, length-over}
 use Rattle.rules.specs.Store.{Store}
-use Rattle.line.specs.Session.{afterLines, answersTo}
-use Rattle.line.specs.Rest.{keptMax, kept}
+use Rattle.session_line.specs.Session.{afterLines, answersTo}
+use Rattle.session_line.specs.Rest.{keptMax, kept}
 use Rattle.replay.specs.Lines.{onLine, linesIn, bytesOf, replayed}
 use Rattle.replay.specs.Chunks.{restIn, lastLine, sessionLines, fed}
 use Rattle.replay.proofs.Laws.Chunks.{chunks-joined}
 use Rattle.replay.proofs.Laws.Flushes.{flush-answers, flush-after, flush-bytes, flush-none}
 use Rattle.replay.proofs.Laws.Lines.{used-within, written-within}
-use Rattle.line.proofs.Laws.Rest.{kept-within}
+use Rattle.session_line.proofs.Laws.Rest.{kept-within}
 use Rattle.serve.specs.Turn.{Roomy, heldIn, cameIn, isOver, endedBy, closed, takenIn, owed, Standing, Opened,
     Answered, Turned}
 use Rattle.serve.specs.declared.turn.Got.{Got}

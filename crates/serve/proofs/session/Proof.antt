@@ -2,7 +2,7 @@
 -- Assumes nothing.
 use native.Mathlib.Omega.{arith}
 use borrow.Author.Needs.{needs}
-use Rattle.line.specs.Rest.{keptMax}
+use Rattle.session_line.specs.Rest.{keptMax}
 use Rattle.serve.proofs.session.Statement.{statement}
 use Rattle.serve.proofs.session.Tie as tie
 

@@ -58,7 +58,7 @@ use Rattle.walks.proofs.Shown.{number, flag, value-in, value-out}
 use Rattle.walks.proofs.Calls.{yield-call, find-call}
 use Rattle.lent.proofs.Types.{table}
 use Rattle.shapes.proofs.Core.{state, books}
-use Rattle.line.specs.Turn.{roomFor, cursorAt}
+use Rattle.session_line.specs.Turn.{roomFor, cursorAt}
 use Rattle.replay.specs.Replayed.{replayedOf}
 use Rattle.replay.proofs.Laws.Turn.{Loop, first as first-of, inv-start, inv-end}
 use Rattle.replay.proofs.Types.{cursor, replayed, bitmap}

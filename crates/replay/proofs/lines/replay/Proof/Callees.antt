@@ -25,10 +25,10 @@ use Rattle.lent.proofs.Types.{area, table}
 use Rattle.shapes.proofs.Core.{state}
 use Rattle.store.proofs.Types.{kept}
 use Rattle.dispatch.proofs.Turning.{ordered}
-use Rattle.line.specs.Session.{bits}
-use Rattle.line.specs.Turn.{roomFor, cursorAt, commandIn}
+use Rattle.session_line.specs.Session.{bits}
+use Rattle.session_line.specs.Turn.{roomFor, cursorAt, commandIn}
 use Rattle.replay.specs.Replayed.{replayedOf}
-use Rattle.line.specs.declared.turn.Cursor.{Cursor}
+use Rattle.session_line.specs.declared.turn.Cursor.{Cursor}
 use Rattle.replay.proofs.Types.{parsed, cursor, replayed, bitmap}
 use Rattle.dispatch.proofs.dispatch as dispatch
 use Rattle.dispatch.proofs.dispatch.Met as dispatch-thm
@@ -37,27 +37,27 @@ use Rattle.dispatch.proofs.entries_in.Met as entries-in-thm
 use Rattle.dispatch.proofs.entries_in.Symbol as entries-in-def
 use Rattle.replay.proofs.lines.replayed_of.Met as replayed-of-thm
 use Rattle.replay.proofs.lines.replayed_of.Symbol as replayed-of-def
-use Rattle.line.proofs.turn.answer_line as answer-line
-use Rattle.line.proofs.turn.answer_line.Met as answer-line-thm
-use Rattle.line.proofs.turn.answer_line.Symbol as answer-line-def
-use Rattle.line.proofs.turn.batch_of as batch-of
-use Rattle.line.proofs.turn.batch_of.Met as batch-of-thm
-use Rattle.line.proofs.turn.batch_of.Symbol as batch-of-def
-use Rattle.line.proofs.turn.blank_bits.Met as blank-bits-thm
-use Rattle.line.proofs.turn.blank_bits.Symbol as blank-bits-def
-use Rattle.line.proofs.turn.command_of.Met as command-of-thm
-use Rattle.line.proofs.turn.command_of.Symbol as command-of-def
-use Rattle.line.proofs.turn.has_line.Met as has-line-thm
-use Rattle.line.proofs.turn.has_line.Symbol as has-line-def
-use Rattle.line.proofs.turn.read_line as read-line
-use Rattle.line.proofs.turn.read_line.Met as read-line-thm
-use Rattle.line.proofs.turn.read_line.Symbol as read-line-def
-use Rattle.line.proofs.turn.room_for.Met as room-for-thm
-use Rattle.line.proofs.turn.room_for.Symbol as room-for-def
-use Rattle.line.proofs.turn.seek.Met as seek-thm
-use Rattle.line.proofs.turn.seek.Symbol as seek-def
-use Rattle.line.proofs.turn.state_of.Met as state-of-thm
-use Rattle.line.proofs.turn.state_of.Symbol as state-of-def
+use Rattle.session_line.proofs.turn.answer_line as answer-line
+use Rattle.session_line.proofs.turn.answer_line.Met as answer-line-thm
+use Rattle.session_line.proofs.turn.answer_line.Symbol as answer-line-def
+use Rattle.session_line.proofs.turn.batch_of as batch-of
+use Rattle.session_line.proofs.turn.batch_of.Met as batch-of-thm
+use Rattle.session_line.proofs.turn.batch_of.Symbol as batch-of-def
+use Rattle.session_line.proofs.turn.blank_bits.Met as blank-bits-thm
+use Rattle.session_line.proofs.turn.blank_bits.Symbol as blank-bits-def
+use Rattle.session_line.proofs.turn.command_of.Met as command-of-thm
+use Rattle.session_line.proofs.turn.command_of.Symbol as command-of-def
+use Rattle.session_line.proofs.turn.has_line.Met as has-line-thm
+use Rattle.session_line.proofs.turn.has_line.Symbol as has-line-def
+use Rattle.session_line.proofs.turn.read_line as read-line
+use Rattle.session_line.proofs.turn.read_line.Met as read-line-thm
+use Rattle.session_line.proofs.turn.read_line.Symbol as read-line-def
+use Rattle.session_line.proofs.turn.room_for.Met as room-for-thm
+use Rattle.session_line.proofs.turn.room_for.Symbol as room-for-def
+use Rattle.session_line.proofs.turn.seek.Met as seek-thm
+use Rattle.session_line.proofs.turn.seek.Symbol as seek-def
+use Rattle.session_line.proofs.turn.state_of.Met as state-of-thm
+use Rattle.session_line.proofs.turn.state_of.Symbol as state-of-def
 use Rattle.replay.proofs.lines.replay.Code as code
 
 abbrev pub Area : Shown
@@ -127,20 +127,21 @@ module _ {M : Type 1} (𝓤 : URA M) (H : Heap 𝓤) (A : Atoms 𝓤) where
 pub knowns : {M : Type 1} (𝓤 : URA M) (H : Heap 𝓤) (𝓜 : Model 𝓤 H) (𝓖 : GhostRules 𝓤 H) (𝓡 : Running 𝓤 H 𝓜)
     → Known 𝓤 H (𝓖 .A) (𝓜 .mem) (𝓡 .run) (tables 𝓤 H 𝓜 𝓡 code.env .C)
 knowns 𝓤 H 𝓜 𝓖 𝓡 = let env = code.env in record {
-  room-for = cited 𝓤 H _ 𝓜 𝓡 env room-for-def.name _ code.calls-line·turn·room-for (room-for-thm.met 𝓤 H 𝓜 𝓖 𝓡);
-  seek = cited 𝓤 H _ 𝓜 𝓡 env seek-def.name _ code.calls-line·turn·seek (seek-thm.met 𝓤 H 𝓜 𝓖 𝓡);
+  room-for = cited 𝓤 H _ 𝓜 𝓡 env room-for-def.name _ code.calls-session-line·turn·room-for (room-for-thm.met 𝓤 H 𝓜 𝓖 𝓡);
+  seek = cited 𝓤 H _ 𝓜 𝓡 env seek-def.name _ code.calls-session-line·turn·seek (seek-thm.met 𝓤 H 𝓜 𝓖 𝓡);
   entries-in = cited 𝓤 H _ 𝓜 𝓡 env entries-in-def.name _ code.calls-dispatch·entries-in (entries-in-thm.met 𝓤 H 𝓜 𝓖 𝓡);
-  has-line = cited 𝓤 H _ 𝓜 𝓡 env has-line-def.name _ code.calls-line·turn·has-line (has-line-thm.met 𝓤 H 𝓜 𝓖 𝓡);
-  read-line = cited 𝓤 H _ 𝓜 𝓡 env read-line-def.name _ code.calls-line·turn·read-line (read-line-thm.met 𝓤 H 𝓜 𝓖 𝓡);
-  blank-bits = cited 𝓤 H _ 𝓜 𝓡 env blank-bits-def.name _ code.calls-line·turn·blank-bits
+  has-line = cited 𝓤 H _ 𝓜 𝓡 env has-line-def.name _ code.calls-session-line·turn·has-line (has-line-thm.met 𝓤 H 𝓜 𝓖 𝓡);
+  read-line = cited 𝓤 H _ 𝓜 𝓡 env read-line-def.name _ code.calls-session-line·turn·read-line
+    (read-line-thm.met 𝓤 H 𝓜 𝓖 𝓡);
+  blank-bits = cited 𝓤 H _ 𝓜 𝓡 env blank-bits-def.name _ code.calls-session-line·turn·blank-bits
     (blank-bits-thm.met 𝓤 H 𝓜 𝓖 𝓡);
-  command-of = cited 𝓤 H _ 𝓜 𝓡 env command-of-def.name _ code.calls-line·turn·command-of
+  command-of = cited 𝓤 H _ 𝓜 𝓡 env command-of-def.name _ code.calls-session-line·turn·command-of
     (command-of-thm.met 𝓤 H 𝓜 𝓖 𝓡);
-  batch-of = cited 𝓤 H _ 𝓜 𝓡 env batch-of-def.name _ code.calls-line·turn·batch-of (batch-of-thm.met 𝓤 H 𝓜 𝓖 𝓡);
+  batch-of = cited 𝓤 H _ 𝓜 𝓡 env batch-of-def.name _ code.calls-session-line·turn·batch-of (batch-of-thm.met 𝓤 H 𝓜 𝓖 𝓡);
   dispatch = cited 𝓤 H _ 𝓜 𝓡 env dispatch-def.name _ code.calls-dispatch·dispatch (dispatch-thm.met 𝓤 H 𝓜 𝓖 𝓡);
-  answer-line = cited 𝓤 H _ 𝓜 𝓡 env answer-line-def.name _ code.calls-line·turn·answer-line
+  answer-line = cited 𝓤 H _ 𝓜 𝓡 env answer-line-def.name _ code.calls-session-line·turn·answer-line
     (answer-line-thm.met 𝓤 H 𝓜 𝓖 𝓡);
-  state-of = cited 𝓤 H _ 𝓜 𝓡 env state-of-def.name _ code.calls-line·turn·state-of (state-of-thm.met 𝓤 H 𝓜 𝓖 𝓡);
+  state-of = cited 𝓤 H _ 𝓜 𝓡 env state-of-def.name _ code.calls-session-line·turn·state-of (state-of-thm.met 𝓤 H 𝓜 𝓖 𝓡);
   replayed-of = cited 𝓤 H _ 𝓜 𝓡 env replayed-of-def.name _ code.calls-replay·lines·replayed-of
     (replayed-of-thm.met 𝓤 H 𝓜 𝓖 𝓡);
 }

@@ -47,9 +47,9 @@ use Rattle.lent.proofs.Types.{table}
 use Rattle.shapes.proofs.Core.{state, books}
 use Rattle.store.proofs.Types.{kept}
 use Rattle.dispatch.proofs.Turning.{ordered, Turns, turn-call, local-written}
-use Rattle.line.specs.Session.{bits}
-use Rattle.line.specs.Turn.{commandIn}
-use Rattle.line.specs.declared.turn.Cursor.{Cursor}
+use Rattle.session_line.specs.Session.{bits}
+use Rattle.session_line.specs.Turn.{commandIn}
+use Rattle.session_line.specs.declared.turn.Cursor.{Cursor}
 use Rattle.replay.proofs.Laws.Turn.{Loop, room, Inv, inv-next}
 use Rattle.replay.proofs.Types.{parsed, cursor, bitmap}
 use Rattle.replay.proofs.Turning.{Shared, at-list, Sized, Mine, parted, read-call, batch-call, answer-call}
