@@ -2,7 +2,7 @@
 // 01 "A session".
 ghost use mathlib.Core.Path.{_≡_};
 ghost use mathlib.Core.Bool.{true, _&&_, cond};
-ghost use Prim.Native.Nat.{_+_, _-_, _≤_, _<_};
+ghost use Prim.Native.Nat.{_+_, _≤_, _<_};
 ghost use lib.ListN.{length, take, drop};
 ghost use Rattle.store.specs.Kept.{storeOf};
 ghost use Rattle.replay.specs.Start.{started};
@@ -57,6 +57,7 @@ pub(crate) fn is_done(s: Session) -> bool
     if s.reads { s.ended } else { false }
 }
 
+// A read that did not fail and brought nothing.
 fn is_over(got: Got) -> bool
     ensures { λ r. ⌜ r ≡ isOver got ⌝ }
 {
