@@ -1,4 +1,4 @@
--- What a session's turn makes of the bytes held and of those that came. 01 "A session"; docs/DECISIONS.md D5, D44.
+-- What a session's turn makes of the bytes held and of those that came. 01 "A session"; docs/DECISIONS.md D5, D45.
 -- In order: Roomy; the bytes held, what a read makes of them; owed, Standing, Opened; Answered, Turned.
 -- Laws: proofs/Laws/Turn.antt.
 -- Assumes nothing.

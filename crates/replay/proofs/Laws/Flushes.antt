@@ -1,6 +1,6 @@
 -- Output in flushes has the answers of all lines: what is answered while there is room, and then the lines of what is
 -- left. Definitions: specs/Lines.antt.
--- In order: the lines after some lines; the lines answered are the first; all lines in two parts; flush after flush.
+-- In order: the lines after some lines; the lines answered are the first; all lines in two parts.
 -- Assumes nothing.
 use mathlib.Core.Path.{_≡_, refl, sym, _∙_, ap}
 use mathlib.Core.Bool.{cond}
@@ -8,8 +8,8 @@ use mathlib.Core.List.{List, [], _∷_, _++_}
 use Prim.Native.Nat.{ℕ, suc, _+_, _-_, _≤_}
 use native.Mathlib.Omega.{arith}
 use lib.Dec.{leb, ltb}
-use lib.ListN.{length, take, drop, length-drop, drop-of-length-le}
-use lib.Seq.{length-take-le, take-all, drop-drop}
+use lib.ListN.{length, drop}
+use lib.Seq.{length-take-le, drop-drop}
 use borrow.Author.Tests.{ltb-true, ltb-false, le-leb}
 use Rattle.lists.proofs.Laws.Bools.{split}
 use Rattle.rules.specs.Store.{Store}
@@ -82,43 +82,3 @@ module _ (numbers out bs : List ℕ) (st : Store) where
       none [] e = refl
       none (m ∷ ms) e = absurd (some-bytes m (answered (length out - length (answerTo m st)) ms (afterLine m st))
           (rw (answered-next (length out) m ms st g) at e))
-
--- ---- flush after flush, over the bytes of an input
-
-module _ (input : List ℕ) (before : Store) where
-  -- what is left from a byte on
-  abbrev pub Left : ℕ → Store → Type 0
-  Left used st = (bytesOf (linesIn input) ≡ used + bytesOf (linesIn (drop used input)))
-      × (afterLines (linesIn input) before ≡ afterLines (linesIn (drop used input)) st)
-
-  pub left-start : Left 0 before
-  left-start = (omega arith, refl)
-
-  -- at the end
-  pub left-done : (used : ℕ) (st : Store) → linesIn (drop used input) ≡ [] → Left used st
-      → (used ≡ bytesOf (linesIn input)) × (st ≡ afterLines (linesIn input) before)
-  unfolding bytesOf afterLines
-  left-done used st e l = let m = rw e at l in (omega (arith, m .0), sym (m .1))
-
-  pub left-end : (used : ℕ) → length input ≤ used → linesIn (drop used input) ≡ []
-  unfolding linesIn
-  left-end used h = rw (drop-of-length-le input {i = used} h)
-
-  module _ (numbers out : List ℕ) (used : ℕ) (st : Store) (within : used ≤ length input) where
-    part : take (length input - used) (drop used input) ≡ drop used input
-    part = take-all (length input - used) (drop used input) (omega (arith, length-drop used input))
-
-    -- one flush more
-    pub left-next : (more : ℕ) (after : Store)
-        → more ≡ bytesOf (replayed numbers out (take (length input - used) (drop used input)) st)
-        → after ≡ afterLines (replayed numbers out (take (length input - used) (drop used input)) st) st
-        → Left used st → Left (used + more) after
-    left-next more after e f l = let bs = drop used input in
-        let m = rw part at e in let g = rw part at f in let n = bytesOf (replayed numbers out bs st) in
-        let d = drop-drop n used input in
-        rw (m, g, ← d) (omega (arith, l .0, flush-bytes numbers out bs st), l .1 ∙ flush-after numbers out bs st)
-
-    pub left-none : numbersMax ≤ length numbers → answerMax ≤ length out
-        → 0 ≡ bytesOf (replayed numbers out (take (length input - used) (drop used input)) st)
-          → linesIn (drop used input) ≡ []
-    left-none h g e = flush-none numbers out (drop used input) st h g (sym (rw part at e))
