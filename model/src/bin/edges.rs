@@ -126,6 +126,10 @@ fn edge(store: &mut Store, letter: u8, words: &[u64]) -> Vec<Line> {
         }
         _ => return Vec::new(),
     };
+    // A call that is made no times has no answer.
+    if all.is_empty() {
+        return Vec::new();
+    }
     vec![(letter, all)]
 }
 
