@@ -140,7 +140,8 @@ fn status(ended: Ended) -> i32
     }
 }
 
-// A whole session as a program: answers its exit status, 0 or 1.
+// A whole session as a program: answers its exit status, 0 or 1. This only limits it: which of the two lies with what
+// is read and written, of which no contract can speak; `serve` and `status` say what each stands for.
 #[no_mangle]
 pub extern "C" fn nizgulk_session() -> i32
     ensures { λ r. ⌜ IsStatus r ⌝ }
