@@ -11,7 +11,7 @@ use rules::limits::PARTITIONS_MAX;
 use rules::limits::ROWS_MAX;
 ghost use mathlib.Core.Path.{_≡_};
 ghost use Rattle.rules.specs.Limits.{rowsMax, entriesMax};
-ghost use Rattle.area.specs.Area.{baseOf};
+ghost use Rattle.area.specs.Area.{baseOf, placeAt};
 ghost use Rattle.area.specs.Load.{partitionIn, noEntries, loadedArea, lastIndex, lastEntry};
 
 // The entries of one partition (01: lot), those in use first.
@@ -55,6 +55,22 @@ pub fn partition_at(ps: Partitions, p: u64) -> Partition
         rows: 0,
         entries: 0,
     }
+}
+
+// Where entry i goes of `count` entries that are put from index `base` on; `past` where it is not in use, or out of range.
+pub fn place_at(count: usize, base: usize, past: usize, i: usize) -> usize
+    ensures { λ r. ⌜ r ≡ placeAt count base past i ⌝ }
+{
+    if count <= i {
+        return past;
+    }
+    if ENTRIES_MAX <= i {
+        return past;
+    }
+    if ENTRIES_LENT <= base {
+        return past;
+    }
+    base + i
 }
 
 // The index of the first entry of partition q.

@@ -3,11 +3,10 @@
 -- Assumes nothing.
 use mathlib.Core.Bool.{Bool, _&&_, cond}
 use mathlib.Core.List.{List}
-use Prim.Native.Nat.{ℕ, _+_, _*_}
+use Prim.Native.Nat.{ℕ}
 use lib.ListN.{replicate}
-use lib.Dec.{ltb}
 use Rattle.rules.specs.Manager.{managerIn}
-use Rattle.rules.specs.Limits.{partitionsMax, areasMax, rowsMax, entriesMax}
+use Rattle.rules.specs.Limits.{partitionsMax, rowsMax, entriesMax}
 use Rattle.rules.specs.Rewrite.{skips}
 use Rattle.rules.specs.WellFormed.{managerOk}
 use Rattle.rules.specs.declared.Answer.{Answer}
@@ -20,7 +19,7 @@ use Rattle.rewrite_plan.specs.Plan.{spansIn, planOf, purgeEpochs}
 use Rattle.rewrite.specs.Kept.{rewrittenOf}
 use Rattle.area.specs.declared.Area.{Area}
 use Rattle.rewrite_plan.specs.declared.Plan.{Plan}
-use Rattle.area.specs.Area.{baseOf}
+use Rattle.area.specs.Area.{baseOf, placeAt}
 use Rattle.admit.specs.Admit.{admitted, byAdmission}
 use Rattle.plan_purge.specs.declared.Purge.{Purge}
 
@@ -63,7 +62,5 @@ abbrev pub newOf : Purge → List Entry
 newOf w = w .new .at
 
 -- past the end for a place that is not in use
-unfoldable pub placeOf : Purge → ℕ → ℕ
-placeOf w i =
-    cond (ltb i (w .new .count) && (ltb i entriesMax && ltb (w .entry) (entriesMax * areasMax)))
-    (w .entry + i) (w .past)
+abbrev pub placeOf : Purge → ℕ → ℕ
+placeOf w i = placeAt (w .new .count) (w .entry) (w .past) i

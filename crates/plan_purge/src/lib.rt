@@ -12,7 +12,6 @@ use rules::Answer;
 use rules::Entry;
 use rules::Partition;
 use rules::State;
-use rules::limits::ENTRIES_LENT;
 use rules::limits::ENTRIES_MAX;
 use rules::limits::PARTITIONS_MAX;
 use txn::parts_sound;
@@ -125,16 +124,7 @@ pub fn entries_of(w: Purge) -> [Entry; ENTRIES_MAX]
 pub fn place_of(w: Purge, i: usize) -> usize
     ensures { λ r. ⌜ r ≡ placeOf w i ⌝ }
 {
-    if w.new.count <= i {
-        return w.past;
-    }
-    if ENTRIES_MAX <= i {
-        return w.past;
-    }
-    if ENTRIES_LENT <= w.entry {
-        return w.past;
-    }
-    w.entry + i
+    area::place_at(w.new.count, w.entry, w.past, i)
 }
 
 pub fn put_purge(entries: &mut [Entry], w: Purge)

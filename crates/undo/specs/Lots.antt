@@ -5,16 +5,15 @@
 -- Assumes nothing.
 use mathlib.Core.Bool.{Bool, _&&_, cond}
 use mathlib.Core.List.{List}
-use Prim.Native.Nat.{ℕ, zero, suc, _+_, _*_}
+use Prim.Native.Nat.{ℕ, zero, suc}
 use lib.ListN.{length, replicate}
-use lib.Dec.{ltb}
-use Rattle.rules.specs.Limits.{rowsMax, entriesMax, areasMax, partitionsMax}
+use Rattle.rules.specs.Limits.{rowsMax, entriesMax, partitionsMax}
 use Rattle.rules.specs.Rewrite.{hasEpoch}
 use Rattle.rules.specs.declared.Entry.{Entry}
 use Rattle.rules.specs.declared.Partitions.{Partitions}
 use Rattle.lent.specs.Entries.{none}
 use Rattle.lent.specs.Shapes.{saved}
-use Rattle.area.specs.Area.{baseOf}
+use Rattle.area.specs.Area.{baseOf, placeAt}
 use Rattle.area.specs.Load.{partitionIn, loadedArea}
 use Rattle.area.specs.declared.Area.{Area}
 use Rattle.partition.specs.Areas.{movedTo}
@@ -65,10 +64,8 @@ abbrev pub newOf : Lot → List Entry
 newOf w = w .new .at
 
 -- past the end for a place that is not in use
-unfoldable pub placeOf : Lot → ℕ → ℕ
-placeOf w i =
-    cond (ltb i (w .new .count) && (ltb i entriesMax && ltb (w .entry) (entriesMax * areasMax))) (w .entry + i)
-    (w .past)
+abbrev pub placeOf : Lot → ℕ → ℕ
+placeOf w i = placeAt (w .new .count) (w .entry) (w .past) i
 
 -- the lent areas and the places, as far as the roll back has come
 pub record Rolling : Type 0 where

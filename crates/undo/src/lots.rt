@@ -7,7 +7,6 @@ use lent::append_entry;
 use rewrite_plan::Plan;
 use rules::Entry;
 use rules::Partitions;
-use rules::limits::ENTRIES_LENT;
 use rules::limits::ENTRIES_MAX;
 use rules::limits::PARTITIONS_MAX;
 ghost use mathlib.Core.Path.{_≡_};
@@ -82,16 +81,7 @@ fn entries_of(w: Lot) -> [Entry; ENTRIES_MAX]
 fn place_of(w: Lot, i: usize) -> usize
     ensures { λ r. ⌜ r ≡ placeOf w i ⌝ }
 {
-    if w.new.count <= i {
-        return w.past;
-    }
-    if ENTRIES_MAX <= i {
-        return w.past;
-    }
-    if ENTRIES_LENT <= w.entry {
-        return w.past;
-    }
-    w.entry + i
+    area::place_at(w.new.count, w.entry, w.past, i)
 }
 
 fn put_lot(entries: &mut [Entry], w: Lot)

@@ -39,7 +39,7 @@ use Rattle.area.specs.declared.Area.{Area}
 use Rattle.rewrite.proofs.Laws.Store.{copied-nowhere as copied-none}
 use Rattle.rewrite.proofs.Laws.Store.{Dated, dated, area-entries, skips-same, purged-area, purged-copied}
 use Rattle.rewrite.proofs.Laws.Copied.{apart-before, apart-after}
-use Rattle.area.specs.Area.{entriesIn, baseOf, areaAt}
+use Rattle.area.specs.Area.{entriesIn, placeAt, baseOf, areaAt}
 use Rattle.area.specs.Load.{loadedArea}
 use Rattle.area.proofs.Laws.Load.{loaded-area}
 use Rattle.partition.specs.Areas.{movedTo}
@@ -62,7 +62,7 @@ Carried s es rs out w =
 unwritten-left : (s : State) (es : List Entry) (rs : List ℕ) (p : ℕ) (a : Answer) (next : Store)
     → cond (accepted a) next (storeOf s rs es) ≡ storeOf s rs es
     → Carried s es rs (purgeOutcome p a next (storeOf s rs es)) (unwrittenPurge (length es) (length rs) a)
-unfolding placeOf movedTo
+unfolding placeAt movedTo
 unwritten-left s es rs p a next same = let w = unwrittenPurge (length es) (length rs) a in
     (refl, (λ j. storeOf s (copied-none (w .old) (w .plan) (length rs) rs j)
       (saved-none placeOf newOf es w (λ i. rw (le-ltb i 0 (omega arith)) (omega arith)) 64 j)) ∙ sym same)
@@ -72,7 +72,7 @@ unwritten-left s es rs p a next same = let w = unwrittenPurge (length es) (lengt
 placed : (w : Purge) (ts : List Span) (es : List Entry) → w .new ≡ areaOf ts → length ts ≤ entriesMax
     → w .entry + length ts ≤ length es → w .entry < entriesMax * areasMax → w .past ≡ length es
     → saved placeOf newOf es w 64 ≡ over (w .entry) (entriesOf 0 ts) es
-unfolding placeOf
+unfolding placeAt
 placed w ts es e few room low past =
     let n : w .new .count ≡ length ts = ap (λ (a : Area). a .count) e in
     let at : w .new .at ≡ areaOf ts .at = ap (λ (a : Area). a .at) e in

@@ -25,7 +25,7 @@ use Rattle.laws.proofs.Laws.WellFormed.{StoreOk}
 use Rattle.lent.specs.Entries.{none}
 use Rattle.lent.specs.Shapes.{saved}
 use Rattle.lent.proofs.Saved.{saved-none, saved-over}
-use Rattle.area.specs.Area.{entriesIn}
+use Rattle.area.specs.Area.{entriesIn, placeAt}
 use Rattle.area.specs.Load.{loadedArea}
 use Rattle.area.specs.declared.Area.{Area}
 use Rattle.area.proofs.Laws.Area.{base-fits}
@@ -43,7 +43,7 @@ use Rattle.undo.proofs.Laws.Rolled.{asRolled, kept-is, rolled-step, row
 
 put-none : (es : List Entry) (n : ℕ) (ps : Partitions) → length es ≤ n
     → saved placeOf newOf es (noLot n ps) entriesMax ≡ es
-unfolding placeOf
+unfolding placeAt
 put-none es n ps h = saved-none placeOf newOf es (noLot n ps) (λ i. rw (le-ltb i 0 (omega arith)) h) entriesMax
 
 pub lots-none : (n i k : ℕ) (s : Rolling) → length (s .entries) ≤ n → rollingBelow false n i k s ≡ s
@@ -58,7 +58,7 @@ lots-none n i (suc k) s h = let w = noLot n (s .places) in rw (lots-none n i k s
 put-kept : (w : Lot) (es : List Entry) → length (w .new .at) ≡ entriesMax → w .new .count ≤ entriesMax
     → w .entry + entriesMax ≤ entriesMax * areasMax → length es ≡ entriesMax * areasMax → w .past ≡ length es
     → saved placeOf newOf es w entriesMax ≡ over (w .entry) (entriesIn (w .new)) es
-unfolding placeOf
+unfolding placeAt
 put-kept w es l few low len past =
     saved-over placeOf newOf es w (w .entry) (w .new .count) (omega arith) (omega arith)
       (λ i k. rw (lt-ltb i (w .new .count) k, lt-ltb i entriesMax (omega arith),
