@@ -19,7 +19,7 @@ pub fn has(xs: &[u64], x: u64) -> bool
     false
 }
 
-// Where x would stand among at most 32 numbers that rise: nothing is promised of it but to end.
+// Where x stands among at most 32 numbers that rise, if it does: a guess, of which nothing is promised.
 fn likely(xs: &[u64], x: u64) -> usize {
     let mut at: usize = 0;
     let mut half: usize = 16;
@@ -35,7 +35,7 @@ fn likely(xs: &[u64], x: u64) -> usize {
     at
 }
 
-// x stands in xs, as has tells: it is first sought where it stands if they rise, as the epochs of sound books do.
+// x stands in xs, as has tells: it is sought first where it stands if they rise, as the epochs of sound books do.
 pub fn look_up(xs: &[u64], x: u64) -> bool
     ensures { λ r. ⌜ r ≡ elem x (now (xs .entry)) ⌝ }
 {

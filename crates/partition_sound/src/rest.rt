@@ -44,10 +44,7 @@ pub fn start() -> Last
     ensures { λ r. ⌜ r ≡ startOf ⌝ }
 {
     let d = before_first();
-    Last {
-        entry: d,
-        ok: true,
-    }
+    Last { entry: d, ok: true }
 }
 
 // n entries and m rows are lent, and the areas are shared out once.

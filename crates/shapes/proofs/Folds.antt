@@ -210,8 +210,8 @@ module _ (K P : Shown) where
 
           -- the first locals with the value z held, and i at j
           abbrev Held : P .row .Denot → ℕ → Item 𝓤
-          Held z j = Frame Fs (bare ∷ holds (held x) ∷ holds (held y) ∷ holds (K .val k) ∷ holds (P .val s) ∷ holds (vint
-              w64 a) ∷ holds (vint w64 b) ∷ holds (P .val z) ∷ holds (vint w64 j) ∷ [])
+          Held z j = Frame Fs (bare ∷ holds (held x) ∷ holds (held y) ∷ holds (K .val k) ∷ holds (P .val s) ∷ holds
+              (vint w64 a) ∷ holds (vint w64 b) ∷ holds (P .val z) ∷ holds (vint w64 j) ∷ [])
 
           -- the context after i turns
           abbrev Turned : ℕ → List (Item 𝓤)
@@ -244,8 +244,8 @@ module _ (K P : Shown) where
               (λ _ _. and-then ! (get ! 5 1 refl refl refl) (and-then ! (get ! 5 8 refl refl refl) (no-more !))) (λ ge.
               land ! (from ! (stop !)) (sets ! 6 0 refl tt (entry .wt 𝓤 H A W (e i) ge)) $ move ! (3 ∷ 4 ∷ []) $
               find-call fm u64 P (K ∷ P ∷ entry ∷ []) St known-step y (k, (cur i, (e i, tt))) (gk, (ga, (ge, tt)))
-              (λ _ _. and-then ! (get ! 5 2 refl refl refl) (and-then ! (get ! 5 3 refl refl refl) (and-then ! (get ! 5 7
-                  refl refl refl) (and-then ! (get ! 6 0 refl refl refl) (no-more !))))) (λ gn.
+              (λ _ _. and-then ! (get ! 5 2 refl refl refl) (and-then ! (get ! 5 3 refl refl refl) (and-then ! (get ! 5
+                  7 refl refl refl) (and-then ! (get ! 6 0 refl refl refl) (no-more !))))) (λ gn.
               land ! (from ! (stop !)) (sets ! 5 7 refl tt (P .wt 𝓤 H A W (to (cur i) (e i)) gn)) $
               assigns-last ! (as-value (ap (vint w64) (one-more a i)) (bin ! (get ! 5 8 refl refl refl) (lit ! tt)
                   (record { fits = next-fits }))) (from ! (stop !)) (sets ! 5 8 refl tt (tt, record { fits = suc-fits
@@ -288,8 +288,8 @@ module _ (K P : Shown) where
           starts = subst (λ (j : ℕ). Sq W (Turned j) (runs (𝓣 .C) (𝓣 .Λ) En (loop (turn-body step)) (anyQ Left))) {x = n
               - n} {y = 0} (omega arith) (loops ! 𝓣 _<_ (Nat·lt-wfRel .wf) Inv (λ t. by-turns t (n - t) refl) n)
 
-          begins : Sq W (‵ (token x) ∷ ‵ (shr x) ∷ ‵ (token y) ∷ ‵ (shr y) ∷ Frame Fs (bare ∷ holds (held x) ∷ holds (held
-              y) ∷ holds (K .val k) ∷ holds (P .val s) ∷ holds (vint w64 a) ∷ holds (vint w64 b) ∷ bare ∷ bare ∷ []) ∷
+          begins : Sq W (‵ (token x) ∷ ‵ (shr x) ∷ ‵ (token y) ∷ ‵ (shr y) ∷ Frame Fs (bare ∷ holds (held x) ∷ holds
+              (held y) ∷ holds (K .val k) ∷ holds (P .val s) ∷ holds (vint w64 a) ∷ holds (vint w64 b) ∷ bare ∷ bare ∷ []) ∷
               Frame Gs (bare ∷ bare ∷ []) ∷ []) (runs (𝓣 .C) (𝓣 .Λ) En (function step .body) (atRet En Post))
           begins =
               assigns ! (of-opd ! (get ! 4 4 refl refl refl)) (from ! (stop !)) (sets ! 4 7 refl tt (P .wt 𝓤 H A W s

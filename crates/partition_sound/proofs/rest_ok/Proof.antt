@@ -25,8 +25,8 @@ use contract.Running.{givenOf, tables, tablesOf}
 use types.Kit.{Given, Item, ‵, _⊛_, ⋆, Sq, anyQ, atRet, runs, prop, _$_, _∵_, !, qed, by, move, keep, split, join}
 use types.Kit.{rewrite, fsplit, use0, suffices, frame, done}
 use types.Run.{Opd, stop, fld, from, load, lit, of-opd, bin, addr, and-then, no-more, assigns, assigns-last, land}
-use types.Run.{first, blocks, stays, leaves-loop, exec, loops, again, Below, returns, init, forget, enter, alloc0, alloc1}
-use types.Run.{params1, pass1, pass0, free0, free1}
+use types.Run.{first, blocks, stays, leaves-loop, exec, loops, again, Below, returns, init, forget, enter, alloc0}
+use types.Run.{alloc1, params1, pass1, pass0, free0, free1}
 use types.Part.{sub, agg, look-in}
 use sound.WpLaws.{FmC, fmOf, WpFn-mono}
 use borrow.Author.Tests.{lt-ltb}

@@ -34,6 +34,8 @@ step-spec =
     (λ c κs. search needs)
     (λ c. c .bad6 .ensures ∙ search (tests, found (c .before .before .before .before .before .before .before .before)))
     (λ c κs. search needs)
-    (λ c. c .bad7 .ensures ∙ search (tests, found (c .before .before .before .before .before .before .before .before .before .before .before .before)))
-    (λ c. search (tests, found (c .before .before .before .before .before .before .before .before .before .before .before)))
+    (λ c. c .bad7 .ensures ∙ search (tests, found (c .before .before .before .before .before .before .before .before
+      .before .before .before .before)))
+    (λ c. search (tests, found (c .before .before .before .before .before .before .before .before .before .before
+      .before)))
     (λ c. search (tests, found (c .before .before .before .before .before .before .before .before .before))))
