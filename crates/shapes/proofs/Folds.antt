@@ -289,8 +289,8 @@ module _ (K P : Shown) where
               - n} {y = 0} (omega arith) (loops ! 𝓣 _<_ (Nat·lt-wfRel .wf) Inv (λ t. by-turns t (n - t) refl) n)
 
           begins : Sq W (‵ (token x) ∷ ‵ (shr x) ∷ ‵ (token y) ∷ ‵ (shr y) ∷ Frame Fs (bare ∷ holds (held x) ∷ holds
-              (held y) ∷ holds (K .val k) ∷ holds (P .val s) ∷ holds (vint w64 a) ∷ holds (vint w64 b) ∷ bare ∷ bare ∷ []) ∷
-              Frame Gs (bare ∷ bare ∷ []) ∷ []) (runs (𝓣 .C) (𝓣 .Λ) En (function step .body) (atRet En Post))
+              (held y) ∷ holds (K .val k) ∷ holds (P .val s) ∷ holds (vint w64 a) ∷ holds (vint w64 b) ∷ bare ∷ bare ∷
+              []) ∷ Frame Gs (bare ∷ bare ∷ []) ∷ []) (runs (𝓣 .C) (𝓣 .Λ) En (function step .body) (atRet En Post))
           begins =
               assigns ! (of-opd ! (get ! 4 4 refl refl refl)) (from ! (stop !)) (sets ! 4 7 refl tt (P .wt 𝓤 H A W s
                   gs)) $

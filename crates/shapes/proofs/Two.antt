@@ -2,6 +2,7 @@
 --     Reads2               the signature: a `&[R]`, a `&[S]`, and parameters of plain types
 --     Finds2, find2-call   a function of two slices and of such values whose result is F of them: copies are passed
 --     shares-local, back-shared-local     a local array is lent as a `&[R]`, and comes back as it was
+--     as-long              it is passed with the length that the code writes
 -- The caller's context has each slice's token and the slice at its head. The operands are read with three entries in
 -- their place.
 -- Assumes `Given`.
@@ -21,13 +22,13 @@ use contract.Lifetimes.{Lfts}
 use sound.WpLaws.{FmC}
 use types.Kit.{Given, Item, Go, ‵, raw, some, later, _⊛_, Post, Goal, runs, lands, Soaks, Seq, Sq, Step, step, _$_}
 use types.Kit.{!, move, use0, use1, drop, split, join, pick, fsplit, fjoin, feqL, feqI, await}
-use types.Run.{Opds}
+use types.Run.{Opd, Opds}
 use types.Tokens.{lft-new, lft-end, lent-back}
 use types.Share.{arr-parts}
 use denote.RattleType.{RattleType, owns}
 use denote.Laws.{Is}
 use denote.Memory.{partAt, shares as all-shares}
-use denote.Slice.{Room}
+use denote.Slice.{sliceVal, Room}
 use denote.Lend.{lends-shr-slice}
 use denote.Array.{Array}
 use denote.ArrayMemory.{Single, array-apart, array-whole}
@@ -110,3 +111,9 @@ module _ {M : Type 1} {𝓤 : URA M} {H : Heap 𝓤} {A : Atoms 𝓤} {K : Type 
   back-shared-local t z R n b α δ ys len = step (λ s. lft-end t z $ lent-back t z $ fsplit t $ drop t $
       feqI t ℕ (length ys) n len $ fjoin t $
       use1 W (‵ (partAt (Array R n) fullShare ys b 0)) (array-whole 𝓤 H A W R fullShare n ys b 0) $ s)
+
+-- the length that the code writes is that of the list
+pub as-long : {M : Type 1} {𝓤 : URA M} {H : Heap 𝓤} {A : Atoms 𝓤} {K : Type 0} {W : Given 𝓤 H A} {Γ : List (Item 𝓤)}
+    {E : Env 𝓤 H} → K → {x : Operand} {b n k : ℕ} → n ≡ k → Opd K W Γ E x (sliceVal (b, 0) k) → Opd K W Γ E x
+    (sliceVal (b, 0) n)
+as-long {K = K} {W} {Γ} {E} t {x} {b} e o = subst (λ (j : ℕ). Opd K W Γ E x (sliceVal (b, 0) j)) (sym e) o
