@@ -13,10 +13,6 @@ use Rattle.lent.specs.Entries.{none}
 use Rattle.lent.specs.Shapes.{turned}
 
 module _ {X : Type 0} (f : X → Entry → X) (a : X) (es : List Entry) where
-  pub turned-none : (i : ℕ) → turned f a es i 0 ≡ a
-  unfolding turned
-  turned-none i = refl
-
   pub turned-part : (i n : ℕ) → i + n ≤ length es → turned f a es i n ≡ foldl f a (part i n es)
   unfolding turned
   turned-part i zero h = refl

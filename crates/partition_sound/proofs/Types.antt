@@ -1,23 +1,20 @@
--- The crate's types as a walk takes them: the clock, where a pass stands, the records' epochs, what is asked of the
--- books.
+-- The crate's types as a walk takes them: where a pass stands, what an epoch is held against, the records' epochs, what
+-- is asked of the books.
 -- Assumes nothing.
 use mathlib.Core.Path.{refl}
+use mir.Syntax.{w64, tyInt, tyArray}
+use denote.Array.{Array, array-vals, array-tells, array-lawful, array-makes}
+use denote.Builtin.{u64}
+use denote.Plain.{uint-vals, uint-tells, uint-lawful, uint-makes}
+use denote.Steps.{only}
 use denote.Struct.Laws as LL
 use Rattle.walks.proofs.Shown.{Shown}
-use Rattle.rules.proofs.Clock as C
-use Rattle.rules.proofs.Clock.Laws as C′
 use Rattle.partition_sound.proofs.Last as L
 use Rattle.partition_sound.proofs.Last.Laws as L′
 use Rattle.partition_sound.proofs.Held as E
 use Rattle.partition_sound.proofs.Held.Laws as E′
 use Rattle.partition_sound.proofs.Asked as K
 use Rattle.partition_sound.proofs.Asked.Laws as K′
-
-abbrev pub clock : Shown
-clock = record {
-  row = C.the-row; mir = C′.mir; val = LL.val C.the-type C′.the-laws; tells = LL.tells C.the-type C′.the-laws;
-  wt = λ 𝓤 H A G z g. LL.lawful C.the-type C′.the-laws 𝓤 H A G .typed z _ g .0; last = λ x. tt;
-  silent = λ x f. refl; makes = λ 𝓤 H A _. LL.makes C.the-type C′.the-plain 𝓤 H A }
 
 abbrev pub last : Shown
 last = record {
@@ -30,6 +27,13 @@ held = record {
   row = E.the-row; mir = E′.mir; val = LL.val E.the-type E′.the-laws; tells = LL.tells E.the-type E′.the-laws;
   wt = λ 𝓤 H A G z g. LL.lawful E.the-type E′.the-laws 𝓤 H A G .typed z _ g .0; last = λ x. tt;
   silent = λ x f. refl; makes = λ 𝓤 H A _. LL.makes E.the-type E′.the-plain 𝓤 H A }
+
+abbrev pub epochs : Shown
+epochs = record {
+  row = Array u64 32; mir = tyArray (tyInt w64) 32; val = λ xs. only (array-vals (uint-vals w64) xs);
+  tells = array-tells u64 (uint-vals w64) (uint-tells w64) 32;
+  wt = λ 𝓤 H A G z g. array-lawful 𝓤 H A G u64 (uint-lawful 𝓤 H A G w64) 32 .typed z _ g .0; last = λ x. tt;
+  silent = λ x f. refl; makes = λ 𝓤 H A G. array-makes 𝓤 H A G u64 (uint-makes 𝓤 H A G w64) 32 }
 
 abbrev pub asked : Shown
 asked = record {

@@ -1,8 +1,8 @@
 -- The parts of the pass over all partitions, as the code makes them: what is asked first, where a partition's entries
--- begin and end, and what the passes over them tell.
+-- begin and end, and what the pass over them tells.
 -- Laws: proofs/Laws/Rest.antt (they find restAsked).
 -- Assumes nothing.
-use mathlib.Core.Bool.{Bool, true, false, _&&_, cond}
+use mathlib.Core.Bool.{Bool, true, _&&_, cond}
 use Prim.Native.Nat.{ℕ, _+_, _*_}
 use lib.Dec.{ltb, leb, eqb}
 use Rattle.rules.specs.Limits.{rowsMax, entriesMax, areasMax}
@@ -16,10 +16,10 @@ use Rattle.partition_sound.specs.declared.Held.{Held}
 use Rattle.partition_sound.specs.declared.Last.{Last}
 
 abbrev pub heldOf : Asked → Held
-heldOf a = record { lce = a .clock .lce; at = a .epochs; count = a .count }
+heldOf a = record { ec = a .clock .ec; lce = a .clock .lce; count = a .count }
 
 abbrev pub startOf : Last
-startOf = record { entry = beforeFirst; ok = true; above = false }
+startOf = record { entry = beforeFirst; ok = true }
 
 abbrev pub begins : ℕ → ℕ → Partitions → Bool
 begins n m ps = lengthsAre n m && areasOk ps
@@ -34,9 +34,6 @@ fromOf q = cond (inPlace q) (entriesMax * q .area) 0
 unfoldable pub toOf : Partition → ℕ
 toOf q = cond (inPlace q) (entriesMax * q .area + q .entries) 0
 
-abbrev pub untilOf : Last → ℕ → ℕ → ℕ
-untilOf s from to = cond (s .above) to from
-
-unfoldable pub judgedOf : Bool → Partition → Last → Bool → Bool
-judgedOf ok q s sure =
-    ok && (leb (q .rows) rowsMax && leb (q .entries) entriesMax) && eqb (s .entry .end) (q .rows) && s .ok && sure
+unfoldable pub judgedOf : Bool → Partition → Last → Bool
+judgedOf ok q s =
+    ok && (leb (q .rows) rowsMax && leb (q .entries) entriesMax) && eqb (s .entry .end) (q .rows) && s .ok

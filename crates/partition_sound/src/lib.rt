@@ -23,18 +23,17 @@ mod numbers;
 mod pass;
 mod rest;
 
-// Where a partition stands after an entry: that entry, whether all are well so far, and whether one was met whose epoch
-// lies above LCE.
+// Where a partition stands after an entry: that entry, and whether all are well so far.
 pub struct Last {
     pub entry: Entry,
     pub ok: bool,
-    pub above: bool,
 }
 
-// The epochs of the records, and LCE: up to there an epoch needs none.
+// What an entry's epoch is held against: it lies below EC, up to LCE it needs no record, and so many of the epochs that
+// are lent beside are those of records.
 pub struct Held {
+    pub ec: u64,
     pub lce: u64,
-    pub at: [u64; WRITERS_MAX],
     pub count: usize,
 }
 
@@ -119,26 +118,24 @@ pub fn ask(clock: Clock, ts: RwTxns, ps: Partitions) -> Asked
     }
 }
 
-// *sound* but for the manager: m rows are lent beside the entries. Two passes over the entries in use of each
-// partition, the second over none where no epoch lies above LCE.
+// *sound* but for the manager: m rows are lent beside the entries. One pass over the entries in use of each partition,
+// to which the records' epochs are lent.
 pub fn rest_ok(entries: &[Entry], m: usize, a: Asked) -> bool
     ensures { λ r. ⌜ r ≡ restAsked (now (entries .entry)) m a ⌝ }
 {
     let n = entries.len();
-    let clock = rest::clock_of(a);
     let held = rest::held_of(a);
     let places = rest::places_of(a);
     let start = rest::start();
     let mut ok = rest::begin(n, m, places);
     let mut p: usize = 0;
+    let epochs = rest::epochs_in(a);
     while p < PARTITIONS_MAX {
         let q = rest::place_of(places, p);
         let from = rest::from_of(q);
         let to = rest::to_of(q);
-        let last = pass::pass(entries, clock, start, from, to);
-        let until = rest::until(last, from, to);
-        let sure = pass::look_up(entries, held, true, from, until);
-        ok = rest::judged(ok, q, last, sure);
+        let last = pass::pass(entries, &epochs, held, start, from, to);
+        ok = rest::judged(ok, q, last);
         p += 1;
     }
     ok

@@ -19,6 +19,35 @@ pub fn has(xs: &[u64], x: u64) -> bool
     false
 }
 
+// Where x stands among at most 32 numbers that rise, if it does: a guess, of which nothing is promised.
+fn likely(xs: &[u64], x: u64) -> usize {
+    let mut at: usize = 0;
+    let mut half: usize = 16;
+    while 0 < half {
+        let next = at + half;
+        if next < xs.len() {
+            if xs[next] <= x {
+                at = next;
+            }
+        }
+        half = half / 2;
+    }
+    at
+}
+
+// x stands in xs, as has tells: it is sought first where it stands if they rise, as the epochs of sound books do.
+pub fn look_up(xs: &[u64], x: u64) -> bool
+    ensures { λ r. ⌜ r ≡ elem x (now (xs .entry)) ⌝ }
+{
+    let i = likely(xs, x);
+    if i < xs.len() {
+        if x == xs[i] {
+            return true;
+        }
+    }
+    has(xs, x)
+}
+
 // No number of xs stands twice.
 pub fn all_differ(xs: &[u64]) -> bool
     ensures { λ r. ⌜ r ≡ distinct (now (xs .entry)) ⌝ }

@@ -1,27 +1,26 @@
-// One pass over the lent entries of a partition (01: lot): each may stand after the one before it. 01 "Refusals that
-// come from the state", *sound*.
+// One pass over the lent entries of a partition (01: lot): each may stand after the one before it, and an epoch above
+// LCE has a record. 01 "Refusals that come from the state", *sound*.
 use crate::Held;
 use crate::Last;
-use crate::numbers::has;
+use crate::numbers::look_up;
 use lent::read_entry;
 use places::in_use;
-use rules::Clock;
 use rules::Entry;
-use rules::limits::WRITERS_MAX;
 ghost use mathlib.Core.Path.{_≡_};
-ghost use mathlib.Core.Bool.{_||_, true};
 ghost use Prim.Native.Nat.{_-_};
-ghost use lib.Dec.{ltb};
+ghost use lib.ListN.{take};
 ghost use Rattle.lent.specs.Shapes.{turned};
-ghost use Rattle.partition_sound.specs.Pass.{badOf, stepOf, foundBy};
+ghost use Rattle.partition_sound.specs.Pass.{foundIn, badOf, stepOf};
 
-fn is_above(above: bool, lce: u64, j: u64) -> bool
-    ensures { λ r. ⌜ r ≡ ltb lce j || above ⌝ }
+// j is an epoch up to LCE, or that of a record: the epochs of the records are lent.
+fn is_found(epochs: &[u64], c: Held, j: u64) -> bool
+    ensures { λ r. ⌜ r ≡ foundIn (c .lce) (take (c .count) (now (epochs .entry))) j ⌝ }
 {
-    if lce < j {
+    if j <= c.lce {
         return true;
     }
-    above
+    let n = in_use(c.count, epochs.len());
+    look_up(&epochs[..n], j)
 }
 
 fn bad(last: Last) -> Last
@@ -31,13 +30,13 @@ fn bad(last: Last) -> Last
     Last {
         entry: d,
         ok: false,
-        above: last.above,
     }
 }
 
-// One entry more. All tests stand in this function: apart from it they cost a nanosecond an entry.
-fn step(c: Clock, last: Last, e: Entry) -> Last
-    ensures { λ r. ⌜ r ≡ stepOf c last e ⌝ }
+// One entry more. All tests but the search for a record stand in this function: apart from it they cost a nanosecond an
+// entry.
+fn step(epochs: &[u64], c: Held, last: Last, e: Entry) -> Last
+    ensures { λ r. ⌜ r ≡ stepOf (now (epochs .entry)) c last e ⌝ }
 {
     let j = e.epoch;
     if j < 1 {
@@ -46,7 +45,9 @@ fn step(c: Clock, last: Last, e: Entry) -> Last
     if c.ec <= j {
         return bad(last);
     }
-    let above = is_above(last.above, c.lce, j);
+    if !is_found(epochs, c, j) {
+        return bad(last);
+    }
     if e.mark == 1 {
         if e.end < last.entry.end {
             return bad(last);
@@ -54,7 +55,6 @@ fn step(c: Clock, last: Last, e: Entry) -> Last
         return Last {
             entry: e,
             ok: last.ok,
-            above: above,
         };
     }
     if e.mark != 0 {
@@ -71,50 +71,19 @@ fn step(c: Clock, last: Last, e: Entry) -> Last
     Last {
         entry: e,
         ok: last.ok,
-        above: above,
     }
 }
 
 // The entries from one index up to another, each a step.
-pub fn pass(entries: &[Entry], c: Clock, start: Last, from: usize, to: usize) -> Last
-    ensures { λ r. ⌜ r ≡ turned (stepOf c) start (now (entries .entry)) from (to - from) ⌝ }
+pub fn pass(entries: &[Entry], epochs: &[u64], c: Held, start: Last, from: usize, to: usize) -> Last
+    ensures { λ r. ⌜ r ≡ turned (stepOf (now (epochs .entry)) c) start (now (entries .entry)) from (to - from) ⌝ }
 {
     let mut last = start;
     let mut i = from;
     while i < to {
         let e = read_entry(entries, i);
-        last = step(c, last, e);
+        last = step(epochs, c, last, e);
         i += 1;
     }
     last
-}
-
-// An epoch above LCE has a record.
-fn find(h: Held, ok: bool, e: Entry) -> bool
-    ensures { λ r. ⌜ r ≡ foundBy h ok e ⌝ }
-{
-    let j = e.epoch;
-    if j <= h.lce {
-        return ok;
-    }
-    let at = h.at;
-    let n = in_use(h.count, WRITERS_MAX);
-    if has(&at[..n], j) {
-        return ok;
-    }
-    false
-}
-
-// The records of the entries from one index up to another: a second pass, made only where an epoch lies above LCE.
-pub fn look_up(entries: &[Entry], h: Held, start: bool, from: usize, to: usize) -> bool
-    ensures { λ r. ⌜ r ≡ turned (foundBy h) start (now (entries .entry)) from (to - from) ⌝ }
-{
-    let mut ok = start;
-    let mut i = from;
-    while i < to {
-        let e = read_entry(entries, i);
-        ok = find(h, ok, e);
-        i += 1;
-    }
-    ok
 }

@@ -6,32 +6,31 @@ use crate::Last;
 use crate::areas::areas_ok;
 use crate::before_first;
 use crate::counts_ok;
-use rules::Clock;
 use rules::Partition;
 use rules::Partitions;
 use rules::limits::AREAS_MAX;
 use rules::limits::ENTRIES_LENT;
 use rules::limits::ENTRIES_MAX;
 use rules::limits::ROWS_LENT;
+use rules::limits::WRITERS_MAX;
 ghost use mathlib.Core.Path.{_≡_};
 ghost use Rattle.area.specs.Load.{partitionIn};
-ghost use Rattle.partition_sound.specs.Rest.{heldOf, startOf, begins, fromOf, toOf, untilOf, judgedOf};
-
-pub fn clock_of(a: Asked) -> Clock
-    ensures { λ r. ⌜ r ≡ a .clock ⌝ }
-{
-    a.clock
-}
+ghost use Rattle.partition_sound.specs.Rest.{heldOf, startOf, begins, fromOf, toOf, judgedOf};
 
 pub fn held_of(a: Asked) -> Held
     ensures { λ r. ⌜ r ≡ heldOf a ⌝ }
 {
-    let at = a.epochs;
     Held {
+        ec: a.clock.ec,
         lce: a.clock.lce,
-        at: at,
         count: a.count,
     }
+}
+
+pub fn epochs_in(a: Asked) -> [u64; WRITERS_MAX]
+    ensures { λ r. ⌜ r ≡ a .epochs ⌝ }
+{
+    a.epochs
 }
 
 pub fn places_of(a: Asked) -> Partitions
@@ -45,11 +44,7 @@ pub fn start() -> Last
     ensures { λ r. ⌜ r ≡ startOf ⌝ }
 {
     let d = before_first();
-    Last {
-        entry: d,
-        ok: true,
-        above: false,
-    }
+    Last { entry: d, ok: true }
 }
 
 // n entries and m rows are lent, and the areas are shared out once.
@@ -96,19 +91,9 @@ pub fn to_of(q: Partition) -> usize
     ENTRIES_MAX * q.area + q.entries
 }
 
-// Where the second pass ends: it goes over no entry where no epoch lies above LCE.
-pub fn until(last: Last, from: usize, to: usize) -> usize
-    ensures { λ r. ⌜ r ≡ untilOf last from to ⌝ }
-{
-    if last.above {
-        return to;
-    }
-    from
-}
-
 // Partition q is well, after those before it.
-pub fn judged(ok: bool, q: Partition, last: Last, sure: bool) -> bool
-    ensures { λ r. ⌜ r ≡ judgedOf ok q last sure ⌝ }
+pub fn judged(ok: bool, q: Partition, last: Last) -> bool
+    ensures { λ r. ⌜ r ≡ judgedOf ok q last ⌝ }
 {
     if !ok {
         return false;
@@ -119,8 +104,5 @@ pub fn judged(ok: bool, q: Partition, last: Last, sure: bool) -> bool
     if last.entry.end != q.rows {
         return false;
     }
-    if !last.ok {
-        return false;
-    }
-    sure
+    last.ok
 }

@@ -11,3 +11,4 @@ pub mod Saving
 pub mod Scan
 pub mod Shape
 pub mod Tail
+pub mod Two

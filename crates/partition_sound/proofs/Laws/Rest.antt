@@ -1,4 +1,4 @@
--- The passes over all partitions find the test of what is asked.
+-- The pass over all partitions finds the test of what is asked.
 -- In order: what is known once a partition was gone over, one partition, those below p, all.
 -- Definitions: specs/Rest.antt.
 -- Assumes nothing.
@@ -21,23 +21,23 @@ use Rattle.rules.specs.declared.Partition.{Partition}
 use Rattle.laws.proofs.Laws.WellFormed.{areas-facts}
 use Rattle.area.specs.Load.{partitionIn}
 use Rattle.lent.specs.Shapes.{turned}
-use Rattle.lent.proofs.Turned.{turned-none, turned-part}
+use Rattle.lent.proofs.Turned.{turned-part}
 use Rattle.partition_sound.specs.Sound.{partitionOkBy, beforeFirst, chained}
 use Rattle.partition_sound.specs.Asked.{lengthsAre, restAsked}
-use Rattle.partition_sound.specs.Pass.{stepOf, foundIn, foundBy}
-use Rattle.partition_sound.specs.Rest.{heldOf, startOf, begins, inPlace, fromOf, toOf, untilOf, judgedOf}
+use Rattle.partition_sound.specs.Pass.{stepOf}
+use Rattle.partition_sound.specs.Rest.{heldOf, startOf, begins, inPlace, fromOf, toOf, judgedOf}
 use Rattle.partition_sound.specs.declared.Asked.{Asked}
 use Rattle.partition_sound.specs.declared.Last.{Last}
-use Rattle.partition_sound.proofs.Laws.Pass.{look-up-all, both-chain}
+use Rattle.partition_sound.proofs.Laws.Pass.{pass-chains}
 use Rattle.partition_sound.proofs.Laws.Sound.{partitionOkBy-many, partitionOkBy-pass}
 
 module _ (es : List Entry) (a : Asked) where
-  -- what the passes over partition q tell
-  abbrev pub lastAt : Partition → Last
-  lastAt q = turned (stepOf (a .clock)) startOf es (fromOf q) (toOf q - fromOf q)
+  abbrev next : Last → Entry → Last
+  next = stepOf (a .epochs) (heldOf a)
 
-  abbrev pub sureAt : Partition → Bool
-  sureAt q = turned (foundBy (heldOf a)) true es (fromOf q) (untilOf (lastAt q) (fromOf q) (toOf q) - fromOf q)
+  -- what the pass over partition q tells
+  abbrev pub lastAt : Partition → Last
+  lastAt q = turned next startOf es (fromOf q) (toOf q - fromOf q)
 
   abbrev pub placeAt : ℕ → Partition
   placeAt p = partitionIn (a .partitions) p
@@ -45,7 +45,7 @@ module _ (es : List Entry) (a : Asked) where
   -- after p partitions
   unfoldable pub okUpTo : Bool → ℕ → Bool
   okUpTo ok zero = ok
-  okUpTo ok (suc p) = judgedOf (okUpTo ok p) (placeAt p) (lastAt (placeAt p)) (sureAt (placeAt p))
+  okUpTo ok (suc p) = judgedOf (okUpTo ok p) (placeAt p) (lastAt (placeAt p))
 
   abbrev js : List ℕ
   js = take (a .count) (a .epochs)
@@ -53,13 +53,13 @@ module _ (es : List Entry) (a : Asked) where
   abbrev okBy : Partition → Bool
   okBy = partitionOkBy (a .clock) js es
 
-  judge : (ok n e s u : Bool) → (((ok && n) && e) && s) && u ≡ ok && (n && ((s && e) && u))
-  judge false n e s u = refl
-  judge true false e s u = refl
-  judge true true true true u = refl
-  judge true true true false u = refl
-  judge true true false true u = refl
-  judge true true false false u = refl
+  judge : (ok n e s : Bool) → ((ok && n) && e) && s ≡ ok && (n && (s && e))
+  judge false n e s = refl
+  judge true false e s = refl
+  judge true true true true = refl
+  judge true true true false = refl
+  judge true true false true = refl
+  judge true true false false = refl
 
   -- one partition, where its area is one of the nine
   module _ (len : length es ≡ entriesMax * areasMax) (q : Partition) (inside : q .area < areasMax) where
@@ -88,35 +88,25 @@ module _ (es : List Entry) (a : Asked) where
       fits : fromOf q + q .entries ≤ length es
       fits = let f = from-is in let n = few in omega arith
 
-      last-is : lastAt q ≡ foldl (stepOf (a .clock)) startOf ps
+      last-is : lastAt q ≡ foldl next startOf ps
       last-is = let f = from-is in let u = to-is in let n : toOf q - fromOf q ≡ q .entries = omega arith in
-          rw n (turned-part (stepOf (a .clock)) startOf es (fromOf q) (q .entries) fits ∙ rw f)
+          rw n (turned-part next startOf es (fromOf q) (q .entries) fits ∙ rw f)
 
-      sure-up : lastAt q .above ≡ true → sureAt q ≡ allOf (foundIn (a .clock .lce) js) ps
-      sure-up up = let f = from-is in let u = to-is in let n : toOf q - fromOf q ≡ q .entries = omega arith in
-          rw (up, n) (turned-part (foundBy (heldOf a)) true es (fromOf q) (q .entries) fits
-            ∙ rw f (look-up-all (heldOf a) true ps))
+      passed : lastAt q .ok && eqb (lastAt q .entry .end) (q .rows) ≡ chained (a .clock) js (q .rows) beforeFirst ps
+      passed = ap (λ (s : Last). s .ok && eqb (s .entry .end) (q .rows)) last-is
+          ∙ pass-chains (a .clock) (a .count) (a .epochs) (q .rows) startOf ps
 
-      sure-down : lastAt q .above ≡ false → sureAt q ≡ true
-      sure-down down = let z : fromOf q - fromOf q ≡ 0 = omega arith in
-          rw (down, z) (turned-none (foundBy (heldOf a)) true es (fromOf q))
+    abbrev well : Bool
+    well = lastAt q .ok && eqb (lastAt q .entry .end) (q .rows)
 
-      passed : (lastAt q .ok && eqb (lastAt q .entry .end) (q .rows)) && sureAt q
-          ≡ chained (a .clock) js (q .rows) beforeFirst ps
-      passed =
-          ap (λ (s : Last). (s .ok && eqb (s .entry .end) (q .rows)) && sureAt q) last-is
-          ∙ both-chain (a .clock) js (q .rows) startOf ps (sureAt q)
-            (λ up. sure-up (ap (λ (s : Last). s .above) last-is ∙ up))
-            (λ down. sure-down (ap (λ (s : Last). s .above) last-is ∙ down))
-
-    judged-is : (ok : Bool) → judgedOf ok q (lastAt q) (sureAt q) ≡ ok && okBy q
+    judged-is : (ok : Bool) → judgedOf ok q (lastAt q) ≡ ok && okBy q
     unfolding judgedOf
-    judged-is ok = judge ok counts (eqb (lastAt q .entry .end) (q .rows)) (lastAt q .ok) (sureAt q)
+    judged-is ok = judge ok counts (eqb (lastAt q .entry .end) (q .rows)) (lastAt q .ok)
         ∙ split counts
-        (λ t. ap (λ (b : Bool). ok && b) (ap (λ (b : Bool). b && ((lastAt q .ok && eqb (lastAt q .entry .end) (q .rows))
-          && sureAt q)) t ∙ (passed t ∙ sym (partitionOkBy-pass (a .clock) js es q t))))
-        (λ n. ap (λ (b : Bool). ok && b) (ap (λ (b : Bool). b && ((lastAt q .ok && eqb (lastAt q .entry .end) (q .rows))
-          && sureAt q)) n ∙ sym (partitionOkBy-many (a .clock) js es q n)))
+        (λ t. ap (λ (b : Bool). ok && b) (ap (λ (b : Bool). b && well) t
+          ∙ (passed t ∙ sym (partitionOkBy-pass (a .clock) js es q t))))
+        (λ n. ap (λ (b : Bool). ok && b) (ap (λ (b : Bool). b && well) n
+          ∙ sym (partitionOkBy-many (a .clock) js es q n)))
 
   -- the partitions below p
   all-one-more : (xs : List Partition) (q : Partition) → allOf okBy (xs ++ (q ∷ [])) ≡ allOf okBy xs && okBy q

@@ -18,9 +18,6 @@ judged-spec =
     (λ c. let v = c .before .before .before in let u = v .before .before in
       rw (not-false (u .before .args .ok) (u .if1 .left), said-yes (v .before .counts-ok .ensures) (v .if2 .left),
         ne-eqb _ _ (c .if3 .taken)))
-    (λ c. let w = c .before .before in let v = w .before .before .before in let u = v .before .before in
+    (λ c. let v = c .before .before .before in let u = v .before .before in
       rw (not-false (u .before .args .ok) (u .if1 .left), said-yes (v .before .counts-ok .ensures) (v .if2 .left),
-        eq-eqb _ _ (w .if3 .left), not-true (u .before .args .last .ok) (c .if4 .taken)))
-    (λ c. let w = c .before .before in let v = w .before .before .before in let u = v .before .before in
-      rw (not-false (u .before .args .ok) (u .if1 .left), said-yes (v .before .counts-ok .ensures) (v .if2 .left),
-        eq-eqb _ _ (w .if3 .left), not-false (u .before .args .last .ok) (c .if4 .left))))
+        eq-eqb _ _ (c .if3 .left))))
