@@ -57,7 +57,7 @@ pub fn partition_at(ps: Partitions, p: u64) -> Partition
     }
 }
 
-// Where entry i goes of `count` entries that are put from index `base` on; `past` where it is not in use, or out of range.
+// Where entry i goes, of `count` that are put from index `base` on; `past` where it is not in use, or out of range.
 pub fn place_at(count: usize, base: usize, past: usize, i: usize) -> usize
     ensures { λ r. ⌜ r ≡ placeAt count base past i ⌝ }
 {
