@@ -16,6 +16,7 @@ pub mod Live
 pub mod Manager
 pub mod ManagerCalls
 pub mod NotUnsound
+pub mod Oldest
 pub mod PartitionFollows
 pub mod ReadOnly
 pub mod Rewrite

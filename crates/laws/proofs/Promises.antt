@@ -1,5 +1,6 @@
 -- What demand 3 comes to for the readers of a store, over every history. Statements: rules/specs/Promises.antt.
--- In order: a history is followed by its ledger; it is sound; LCE; a page; a load; a load lands whole; making new.
+-- In order: a history is followed by its ledger; it is sound; LCE; the load that holds it back; a page; a load; a load
+-- lands whole; making new.
 -- Elsewhere: demand 3 itself (History.antt), single calls (Laws/Stays.antt).
 -- Assumes nothing.
 use mathlib.Core.Path.{_≡_, refl, sym, _∙_, ap}
@@ -8,18 +9,23 @@ use mathlib.Core.List.{List, [], _∷_, _++_, append-nil}
 use Prim.Native.Nat.{ℕ, _≤_, _<_}
 use lib.ListN.{length}
 use lib.Dec.{eqb}
-use borrow.Author.Tests.{eqb-true, lt-leb}
-use Rattle.lists.specs.Lists.{keepIf, allOf}
+use borrow.Author.Tests.{eqb-true, eq-eqb, lt-leb}
+use Rattle.lists.specs.Lists.{keepIf, allOf, elem}
 use Rattle.lists.proofs.Laws.All.{All-every, keepIf-keepIf, keepIf-ext, keepIf-none}
 use Rattle.lists.proofs.Laws.Bools.{split, and-left, and-right, and-true, and-false}
 use Rattle.rules.specs.Limits.{partitionsMax}
 use Rattle.rules.specs.Bitmap.{bytesFor}
-use Rattle.rules.specs.Store.{Store, partitionAt}
-use Rattle.rules.specs.Calls.{scanAnswer}
-use Rattle.rules.specs.Step.{Call, create, step, run}
-use Rattle.rules.specs.Ledger.{Line, row, delete, Ledger, linesAt, concealed, showsIn, shows}
-use Rattle.rules.specs.Claim.{history, ledgerOf, isOpenIn, shownBy, wordsScanned}
+use Rattle.rules.specs.Manager.{Manager}
+use Rattle.rules.specs.Close.{committedManager, rolledBackManager}
+use Rattle.rules.specs.Store.{Store, managerOf, partitionAt}
+use Rattle.rules.specs.Answers.{replyOf, secondValue, accepted}
+use Rattle.rules.specs.WellFormed.{wellFormed}
+use Rattle.rules.specs.Calls.{closeAnswer, scanAnswer}
+use Rattle.rules.specs.Step.{Call, create, rollback, commit, step, run}
+use Rattle.rules.specs.Ledger.{Line, row, delete, Ledger, oldest, heard, linesAt, concealed, showsIn, shows}
+use Rattle.rules.specs.Claim.{eventOf, history, ledgerOf, isOpenIn, shownBy, wordsScanned}
 use Rattle.rules.specs.Promises.{Made, storeAfter, ledgerAfter, HistorySound, HistoryLce, spares, rowsOf, rowsBy}
+use Rattle.rules.specs.Promises.{ledgerNext, NamesOldest, HistoryNamesOldest, HistoryNamesHolder}
 use Rattle.rules.specs.Promises.{HistoryPageUnchanged, HistoryLoadUnchanged, ledgerSees, ledgerApplies}
 use Rattle.rules.specs.Promises.{unhiddenIn, unhidden, shownLines, marked, wordsIn, HistoryLandsWhole}
 use Rattle.rules.specs.Promises.{NewClosesAll}
@@ -27,7 +33,9 @@ use Rattle.rules.specs.declared.Reader.{Reader}
 use Rattle.rules.specs.declared.Reader.the-variants.{Rw, Ro}
 use Rattle.laws.proofs.Laws.WellFormed.{store-ok}
 use Rattle.laws.proofs.Laws.Sound.{sound-created, sound-run, sound-answers}
-use Rattle.laws.proofs.Laws.Tracks.{shownBy-tests, tracks-admits, tracks-latest}
+use Rattle.laws.proofs.Laws.Calls.{close-passed}
+use Rattle.laws.proofs.Laws.Oldest.{tracks-oldest, tracks-holder}
+use Rattle.laws.proofs.Laws.Tracks.{Tracks, shownBy-tests, tracks-admits, tracks-latest}
 use Rattle.laws.proofs.Laws.Stays.{rowsOf-page, Stays, stays-still, stays-twice, stays-step}
 use Rattle.laws.proofs.Laws.Follows.{Follows}
 use Rattle.laws.proofs.History.{follows-step, follows-run, follows-agrees, follows-made}
@@ -42,6 +50,42 @@ history-sound s st h calls = let ok = sound-run calls (step (create s) st .store
 
 pub history-lce : HistoryLce
 history-lce s st h calls = tracks-latest (follows-history s st h calls .tracks)
+
+-- ---- the load that holds LCE back
+
+module _ {st : Store} {g : Ledger} (F : Follows st g) (i : ℕ) where
+  abbrev m : Manager
+  m = managerOf st
+
+  -- next is what the call leaves of the manager, g′ of the ledger
+  names-oldest : (next : Manager) (g′ : Ledger) → Tracks next g′
+      → accepted (closeAnswer i (wellFormed st) m next) ≡ true
+      → secondValue (replyOf (closeAnswer i (wellFormed st) m next)) ≡ oldest g′
+  names-oldest next g′ T t = rw (close-passed i (wellFormed st) m next t .is) (tracks-oldest T)
+
+  commit-names : NamesOldest (commit i) st g
+  unfolding step history ledgerOf
+  commit-names t = names-oldest (committedManager i m) _ (rw t at (follows-step (commit i) F .tracks)) t
+
+  rollback-names : NamesOldest (rollback i) st g
+  unfolding step history ledgerOf
+  rollback-names t = names-oldest (rolledBackManager i m) _ (rw t at (follows-step (rollback i) F .tracks)) t
+
+pub history-names-oldest : HistoryNamesOldest
+history-names-oldest s st h calls i = let F = follows-history s st h calls in (commit-names F i, rollback-names F i)
+
+-- an accepted commit is in the ledger
+commit-heard : (st : Store) (g : Ledger) (i : ℕ) → accepted (step (commit i) st .answer) ≡ true
+    → elem i (ledgerNext (commit i) st g .committed) ≡ true
+unfolding history ledgerOf heard eventOf
+commit-heard st g i t = rw (t, eq-eqb i i refl)
+
+pub history-names-holder : HistoryNamesHolder
+unfolding history ledgerOf
+history-names-holder s st h calls i t l =
+    let F = follows-history s st h calls in let at = storeAfter s st calls in let g = ledgerAfter s st calls in
+    let T = follows-step (commit i) F .tracks in
+    rw (commit-names F i t) (tracks-holder T i (commit-heard at g i t) l)
 
 -- ---- a reader that no call closes is shown what it was shown and its own new rows
 

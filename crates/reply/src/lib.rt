@@ -64,7 +64,7 @@ pub fn reply_of(answer: Answer) -> ReplyWords
         Answer::Begun { epoch } => one(epoch),
         Answer::Appended { rows } => one(rows as u64),
         Answer::Cleared { entries } => one(entries as u64),
-        Answer::Closed { lce } => one(lce),
+        Answer::Closed { lce, oldest } => two(lce, oldest),
         Answer::BegunRo { ticket } => one(ticket),
         Answer::EndedRo { left } => one(left as u64),
         Answer::Scanned { rows, ones } => two(rows as u64, ones as u64),

@@ -53,12 +53,12 @@ cases =
     -- 9, 10
     ∷ purgedAt 3 a ((3 ∷ 5 ∷ 0 ∷ []) ∷ (5 ∷ 5 ∷ 1 ∷ []) ∷ (3 ∷ 8 ∷ 0 ∷ []) ∷ (7 ∷ 9 ∷ 0 ∷ []) ∷ [])
     ∷ purgedAt 5 a ((7 ∷ 1 ∷ 0 ∷ []) ∷ [])
-    -- 11 (004, table I): LCE 1, 1, 3
+    -- 11 (004, table I): LCE 1, 1, 3; the oldest open one 2, 2, none
     ∷ from (made 1) (begin ∷ begin ∷ begin ∷ []) (linesOf (commit 1 ∷ commit 3 ∷ commit 2 ∷ []))
-      ((0 ∷ 1 ∷ []) ∷ (0 ∷ 1 ∷ []) ∷ (0 ∷ 3 ∷ []) ∷ [])
+      ((0 ∷ 1 ∷ 2 ∷ []) ∷ (0 ∷ 1 ∷ 2 ∷ []) ∷ (0 ∷ 3 ∷ 0 ∷ []) ∷ [])
     -- 12: target 1 is held while 2 is open
     ∷ from (made 1) (begin ∷ begin ∷ commit 1 ∷ []) (linesOf (advanceLse 1 ∷ commit 2 ∷ advanceLse 1 ∷ []))
-      ((10 ∷ []) ∷ (0 ∷ 2 ∷ []) ∷ (0 ∷ 1 ∷ []) ∷ [])
+      ((10 ∷ []) ∷ (0 ∷ 2 ∷ 0 ∷ []) ∷ (0 ∷ 1 ∷ []) ∷ [])
     ∷ []
 
 pub cases-hold : map observed cases ≡ map (λ c. c .expected) cases

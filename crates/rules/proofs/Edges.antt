@@ -17,12 +17,15 @@ use Rattle.rules.specs.declared.Reader.{Reader}
 use Rattle.rules.specs.declared.Reader.the-variants.{Rw, Ro}
 use Rattle.rules.proofs.Look.{made, Look, linesOf, bytesTo, entriesIn, Case, observed, alike, agree, agree-eq}
 
--- a line that is only a number, and a line of 0 and a value
+-- a line that is only a number, a line of 0 and a value, and that of a commit or roll back: LCE, the oldest open epoch
 only : ℕ → List ℕ
 only n = n ∷ []
 
 ok : ℕ → List ℕ
 ok v = 0 ∷ v ∷ []
+
+closed : ℕ → ℕ → List ℕ
+closed lce oldest = 0 ∷ lce ∷ oldest ∷ []
 
 case : Store → List Call → Look → List (List ℕ) → Case
 case st cs l e = record { start = st; calls = cs; look = l; expected = e }
@@ -42,11 +45,11 @@ session =
 pub sessionCase : Case
 sessionCase =
     case (made 1) [] (linesOf session)
-    (ok 1 ∷ ok 2 ∷ ok 2 ∷ ok 3 ∷ ok 1 ∷ ok 1 ∷ ok 3 ∷ (0 ∷ 20 ∷ []) ∷ ok 2
+    (ok 1 ∷ ok 2 ∷ ok 2 ∷ ok 3 ∷ closed 1 2 ∷ ok 1 ∷ ok 3 ∷ (0 ∷ 20 ∷ []) ∷ closed 2 0
     ∷ (0 ∷ 10 ∷ 11 ∷ []) ∷ ok 2 ∷ only 0 ∷ only 10 ∷ ok 1 ∷ ok 2 ∷ ok 1 ∷ only 2 ∷ [])
 
 pub session-holds : observed sessionCase ≡ sessionCase .expected
-unfolding observed sessionCase session case look ok only
+unfolding observed sessionCase session case look closed ok only
 session-holds = refl
 
 -- ---- edges
@@ -68,8 +71,8 @@ edges =
       (linesOf (append 1 0 (7 ∷ 7 ∷ []) ∷ append 1 0 (7 ∷ []) ∷ append 1 0 (7 ∷ []) ∷ [])) (only 8 ∷ ok 512 ∷ only
           8 ∷ [])
     -- the 33rd transaction, read-write (32 open or waiting) and read-only
-    ∷ case (made 1) (replicate 32 begin ++ commit 2 ∷ []) (linesOf (begin ∷ commit 1 ∷ begin ∷ [])) (only 7 ∷ ok 2
-        ∷ ok 33 ∷ [])
+    ∷ case (made 1) (replicate 32 begin ++ commit 2 ∷ []) (linesOf (begin ∷ commit 1 ∷ begin ∷ []))
+      (only 7 ∷ closed 2 3 ∷ ok 33 ∷ [])
     ∷ case (made 1) (replicate 32 (beginRo 0)) (linesOf (beginRo 0 ∷ endRo 5 ∷ beginRo 0 ∷ [])) (only 7 ∷ ok 31 ∷
         ok 33 ∷ [])
     -- a partition of 9 rows wants 2 bytes, and later bytes stay; one of no rows wants none
@@ -90,10 +93,14 @@ edges =
       (linesOf (commit 2 ∷ rollback 2 ∷ append 2 0 [] ∷ clear 2 0 ∷ look (Rw 2) ∷ [])) (only 2 ∷ only 2 ∷ only 2 ∷
           only 2 ∷ only 2 ∷ [])
     -- a rollback moves LCE, lowers later ends and joins what become neighbours
-    ∷ case (made 1) (begin ∷ begin ∷ commit 2 ∷ []) (linesOf (rollback 1 ∷ [])) (ok 2 ∷ [])
+    ∷ case (made 1) (begin ∷ begin ∷ commit 2 ∷ []) (linesOf (rollback 1 ∷ [])) (closed 2 0 ∷ [])
     ∷ case (made 1) (begin ∷ begin ∷ append 1 0 (1 ∷ 2 ∷ []) ∷ append 2 0 (3 ∷ []) ∷ append 1 0 (4 ∷ []) ∷ rollback
         2 ∷ []) (entriesIn 0)
       ((1 ∷ 3 ∷ 0 ∷ []) ∷ [])
+    -- 02 (i): commit and roll back name the oldest open one, neither the one that they close nor one that waits
+    ∷ case (made 1) (begin ∷ begin ∷ []) (linesOf (commit 2 ∷ commit 1 ∷ [])) (closed 0 1 ∷ closed 2 0 ∷ [])
+    ∷ case (made 1) (begin ∷ begin ∷ begin ∷ []) (linesOf (commit 2 ∷ rollback 1 ∷ [])) (closed 0 1 ∷ closed 2 3 ∷ [])
+    ∷ case (made 1) (begin ∷ []) (linesOf (rollback 1 ∷ rollback 1 ∷ [])) (closed 0 0 ∷ only 2 ∷ [])
     -- 01 "Where hands go wrong", first: 1 open, 2 committed, 3 begun, 1 committed; LSE stays below 1 while 3
     -- is open
     ∷ case (made 1) (begin ∷ begin ∷ append 1 0 (1 ∷ []) ∷ append 2 0 (2 ∷ []) ∷ commit 2 ∷ begin ∷ commit 1 ∷ [])
@@ -109,7 +116,7 @@ edges =
     ∷ []
 
 pub edges-hold : map observed edges ≡ map (λ c. c .expected) edges
-unfolding agree alike observed edges gap case look ok only lastEpoch
+unfolding agree alike observed edges gap case look closed ok only lastEpoch
 edges-hold = agree-eq (map observed edges) (map (λ c. c .expected) edges) refl
 
 -- ---- the order of the refusals: each neighbouring pair of each call, both of which hold

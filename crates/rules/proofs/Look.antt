@@ -12,7 +12,7 @@ use borrow.Author.Tests.{eqb-true}
 use Rattle.lists.proofs.Laws.Bools.{and-left, and-right}
 use Rattle.rules.specs.Limits.{rowsMax, entriesMax, areasMax, lastEpoch, lastTicket}
 use Rattle.rules.specs.Begin.{createdManager, begunManager}
-use Rattle.rules.specs.Close.{committedTxns, droppedTxns, settledLce, settled, committedManager}
+use Rattle.rules.specs.Close.{committedTxns, droppedTxns, settledLce, oldestOpen, settled, committedManager}
 use Rattle.rules.specs.Close.{rolledBackManager}
 use Rattle.rules.specs.ReadOnly.{snapshotEpoch, begunRoManager, endedRoManager}
 use Rattle.rules.specs.Safe.{blocked, greatestTarget, targetOf, advancedManager}
@@ -87,7 +87,7 @@ pub record Case : Type 0 where
 
 unfoldable pub observed : Case → List (List ℕ)
 unfolding made line lines bits looked lastEpoch lastTicket createdManager begunManager committedTxns
-    droppedTxns settledLce settled committedManager rolledBackManager snapshotEpoch begunRoManager
+    droppedTxns settledLce oldestOpen settled committedManager rolledBackManager snapshotEpoch begunRoManager
     endedRoManager blocked greatestTarget targetOf advancedManager spans entriesOf wordsOf extended appended
     cleared seesRw appliesRw hidden flagsIn flags joinedOnto joined hasEpoch rolledBack purgedIn purged skips
     bytesFor byteOf packed bitmapAfter spansAt laid laidInPlace laidInSpare createdStore rolledBackAt

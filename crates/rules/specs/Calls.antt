@@ -12,9 +12,9 @@ use lib.Dec.{ltb, leb, eqb}
 use Rattle.lists.specs.Lists.{ones}
 use Rattle.rules.specs.Limits.{lastEpoch, lastTicket, writersMax, readersMax, partitionsMax, rowsMax}
 use Rattle.rules.specs.Limits.{entriesMax}
-use Rattle.rules.specs.Manager.{hasOpen, depsAt, hasReader, epochAt}
+use Rattle.rules.specs.Manager.{hasOpen, depsAt, hasReader, epochAt, writersOf}
 use Rattle.rules.specs.Begin.{begunManager}
-use Rattle.rules.specs.Close.{committedManager}
+use Rattle.rules.specs.Close.{oldestOpen, committedManager}
 use Rattle.rules.specs.ReadOnly.{snapshotEpoch, begunRoManager, endedRoManager}
 use Rattle.rules.specs.Safe.{blocked, targetOf, advancedManager}
 use Rattle.rules.specs.Span.{wordsOf}
@@ -62,12 +62,12 @@ beginAnswer sound m =
     (refuse TxnsFull (leb writersMax (m .writers .count))
     (Begun (m .clock .ec))))
 
--- commit and roll back: next is the manager once the transaction is closed
+-- commit and roll back: next is the manager once the transaction is closed; 02 (i): who is the oldest open one then
 unfoldable pub closeAnswer : ℕ → Bool → Manager → Manager → Answer
 closeAnswer i sound m next =
     refuse Unsound (not sound)
     (refuse NotOpen (not (hasOpen i m))
-    (Closed (next .clock .lce)))
+    (Closed (next .clock .lce) (oldestOpen (writersOf next))))
 
 unfoldable pub beginRoAnswer : ℕ → Bool → Manager → Answer
 beginRoAnswer e sound m =

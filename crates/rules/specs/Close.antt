@@ -1,15 +1,15 @@
 -- Commit and roll back, in the manager: the transaction is closed, then LCE is settled.
--- 01 "The books", Commit, roll back; 004 III-B "LCE" and Table I, where only a commit moves LCE.
--- In order: committedTxns, droppedTxns, settledLce, settled, committedManager, rolledBackManager. Laws:
+-- 01 "The books", Commit, roll back; 02 (i); 004 III-B "LCE" and Table I, where only a commit moves LCE.
+-- In order: committedTxns, droppedTxns, settledLce, oldestOpen, settled, committedManager, rolledBackManager. Laws:
 -- laws/proofs/Laws/Close.antt.
 -- Assumes nothing.
 use mathlib.Core.Bool.{Bool, not, _&&_, _||_, cond}
 use mathlib.Core.List.{List, [], map, foldr}
 use Prim.Native.Nat.{ℕ, max}
 use lib.Dec.{ltb, leb}
-use Rattle.lists.specs.Lists.{keepIf, allOf}
-use Rattle.rules.specs.Manager.{Writer, writer, isOpen, opens, writersOf, withClock, withLce, withWriters}
-use Rattle.rules.specs.Manager.{Manager}
+use Rattle.lists.specs.Lists.{keepIf, allOf, leastOf}
+use Rattle.rules.specs.Manager.{Writer, writer, isOpen, opens, openEpochs, writersOf, withClock, withLce}
+use Rattle.rules.specs.Manager.{Manager, withWriters}
 
 -- committed, it waits: it drops its deps and keeps its place
 abbrev pub waitingTxn : ℕ → Writer
@@ -30,6 +30,10 @@ unblocked ts e = allOf (λ t. not (isOpen t) || leb e (t .epoch)) ts
 unfoldable pub settledLce : ℕ → List Writer → ℕ
 settledLce lce ts =
     foldr max lce (map (λ t. t .epoch) (keepIf (λ t. not (isOpen t) && unblocked ts (t .epoch)) ts))
+
+-- the oldest open epoch, or 0 where none is open: what is committed above it waits
+unfoldable pub oldestOpen : List Writer → ℕ
+oldestOpen ts = leastOf (openEpochs ts)
 
 -- LCE is settled, and what it has reached waits no longer
 unfoldable pub settled : List Writer → Manager → Manager

@@ -107,7 +107,7 @@ pub enum Answer {
     Begun { epoch: u64 },
     Appended { rows: usize },
     Cleared { entries: usize },
-    Closed { lce: u64 },
+    Closed { lce: u64, oldest: u64 },
     BegunRo { ticket: u64 },
     EndedRo { left: usize },
     Scanned { rows: usize, ones: usize },

@@ -1,7 +1,7 @@
 -- Closing and settling as one pass over rising records sees them. 01 "The books", Commit, roll back.
--- The rules' own wording is settledLce (rules/specs/Close.antt); proofs/Laws/Settle.antt shows that the two
--- agree.
--- In order: lead, runLce, the books, the transaction closed, the search for it.
+-- The rules' own wording is settledLce and oldestOpen (rules/specs/Close.antt); proofs/Laws/Settle.antt shows that the
+-- two agree.
+-- In order: lead, runLce, firstOpen, the books, the transaction closed, the search for it.
 -- Assumes nothing.
 use mathlib.Core.Bool.{Bool, cond}
 use mathlib.Core.List.{List, [], _∷_}
@@ -20,6 +20,7 @@ use Rattle.txn_find.specs.declared.Found.the-variants.{At, Nothing}
 use Rattle.txn_close.specs.declared.Ended.{Ended}
 use Rattle.txn_close.specs.declared.close.Books.{Books}
 use Rattle.txn_close.specs.declared.close.Reached.{Reached}
+use Rattle.txn_close.specs.declared.close.Settled.{Settled}
 
 -- how many wait before the first open one
 abbrev pub lead : List Writer → ℕ
@@ -31,8 +32,13 @@ abbrev pub runLce : ℕ → List Writer → ℕ
 runLce lce [] = lce
 runLce lce (t ∷ ts) = cond (isOpen t) lce (runLce (t .epoch) ts)
 
+-- the epoch of the first open one, or 0
+abbrev pub firstOpen : List Writer → ℕ
+firstOpen [] = 0
+firstOpen (t ∷ ts) = cond (isOpen t) (t .epoch) (firstOpen ts)
+
 abbrev pub reachOf : ℕ → List Writer → Reached
-reachOf lce ts = record { lce = runLce lce ts; count = lead ts }
+reachOf lce ts = record { lce = runLce lce ts; count = lead ts; oldest = firstOpen ts }
 
 -- the books with these transactions, but for their table
 abbrev pub booksWith : Clock → List Writer → Books
@@ -46,15 +52,17 @@ closedTxns waits j i ws = cond waits (set ws j (waitingTxn i)) (cut j (suc j) ws
 -- ---- the search for it, then closed and settled
 
 -- LCE is settled over ws, and what it has reached is gone
-abbrev pub settledBooks : Clock → List Writer → Books
-settledBooks c ws = booksWith (withLce (runLce (c .lce) ws) c) (drop (lead ws) ws)
+abbrev pub settledBy : Clock → List Writer → Settled
+settledBy c ws =
+    record { books = booksWith (withLce (runLce (c .lce) ws) c) (drop (lead ws) ws); oldest = firstOpen ws }
 
-abbrev pub endedWith : Books → Ended
-endedWith b = record { answer = Closed (b .clock .lce); clock = b .clock; writers = b .writers }
+abbrev pub endedWith : Settled → Ended
+endedWith s =
+    record { answer = Closed (s .books .clock .lce) (s .oldest); clock = s .books .clock; writers = s .books .writers }
 
 -- by what the search found among ws, which the records ts show
 abbrev pub endedBy : Bool → ℕ → Clock → RwTxns → List Writer → Found → Ended
-endedBy waits i c ts ws (At j) = endedWith (settledBooks c (closedTxns waits j i ws))
+endedBy waits i c ts ws (At j) = endedWith (settledBy c (closedTxns waits j i ws))
 endedBy waits i c ts ws Nothing = record { answer = Refused NotOpen; clock = c; writers = ts }
 
 -- the table of deps then

@@ -1,4 +1,4 @@
-// Close, then settle LCE. 01 "The books", Commit, roll back; 004 III-B "LCE".
+// Close, then settle LCE. 01 "The books", Commit, roll back; 02 (i); 004 III-B "LCE".
 use places::in_use;
 use rules::Clock;
 use rules::RwTxn;
@@ -13,10 +13,10 @@ ghost use Prim.Native.Nat.{suc, _+_, _≤_, _<_};
 ghost use lib.ListN.{length, take, drop, set, replicate};
 ghost use Rattle.lists.specs.Lists.{over, pad};
 ghost use Rattle.rules.specs.Limits.{writersMax, depsMax, depsAll};
-ghost use Rattle.rules.specs.Manager.{noRw, view, withLce};
+ghost use Rattle.rules.specs.Manager.{noRw, view};
 ghost use Rattle.rules.specs.Close.{waitingTxn};
 ghost use Rattle.txn.specs.Records.{cut, writersWith, tableWith, viewed, Tidy};
-ghost use Rattle.txn_close.specs.Close.{lead, runLce, reachOf, booksWith, closedTxns};
+ghost use Rattle.txn_close.specs.Close.{lead, reachOf, booksWith, closedTxns, settledBy};
 
 // What a close changes beside the table of deps, which is lent (01: the books, without the lots).
 pub struct Books {
@@ -24,13 +24,20 @@ pub struct Books {
     pub writers: RwTxns,
 }
 
-// LCE once settled, and how many records wait no longer.
+// The books once LCE is settled, and the oldest open epoch, or 0.
+pub struct Settled {
+    pub books: Books,
+    pub oldest: u64,
+}
+
+// LCE once settled, how many records wait no longer, and the epoch of the first open one, or 0.
 struct Reached {
     lce: u64,
     count: usize,
+    oldest: u64,
 }
 
-// The records that wait before the first open one.
+// The records that wait before the first open one, and that one.
 fn reach(ts: RwTxns, lce: u64) -> Reached
     ensures { λ r. ⌜ r ≡ reachOf lce (map (view []) (take (ts .count) (ts .at))) ⌝ }
 {
@@ -42,6 +49,7 @@ fn reach(ts: RwTxns, lce: u64) -> Reached
             return Reached {
                 lce: last,
                 count: k,
+                oldest: ts.at[k].epoch,
             };
         }
         last = ts.at[k].epoch;
@@ -50,6 +58,7 @@ fn reach(ts: RwTxns, lce: u64) -> Reached
     Reached {
         lce: last,
         count: k,
+        oldest: 0,
     }
 }
 
@@ -165,25 +174,30 @@ impl Books {
     }
 
     // LCE is settled, and what it has reached waits no longer.
-    pub(crate) fn settle(self, deps: &mut [u64; DEPS_ALL]) -> Books
+    pub(crate) fn settle(self, deps: &mut [u64; DEPS_ALL]) -> Settled
         requires { ⌜ Tidy (self .writers) (now deps) ⌝ }
         ensures { λ r. ⌜ (let ws = viewed (self .writers) (now (deps .entry)) in
-            (r ≡ booksWith (withLce (runLce (self .clock .lce) ws) (self .clock)) (drop (lead ws) ws))
-            × (now (deps .exit) ≡ tableWith (drop (lead ws) ws))) ⌝ }
+            (r ≡ settledBy (self .clock) ws) × (now (deps .exit) ≡ tableWith (drop (lead ws) ws))) ⌝ }
     {
         let reached = reach(self.writers, self.clock.lce);
         let k = reached.count;
         if k == 0 {
-            return self;
+            return Settled {
+                books: self,
+                oldest: reached.oldest,
+            };
         }
         let n = self.writers.count;
         cut_words(deps, 0, DEPS_MAX * k, DEPS_MAX * n);
         let ts = cut_writers(self.writers, 0, k);
         let mut clock = self.clock;
         clock.lce = reached.lce;
-        Books {
-            clock: clock,
-            writers: ts,
+        Settled {
+            books: Books {
+                clock: clock,
+                writers: ts,
+            },
+            oldest: reached.oldest,
         }
     }
 }

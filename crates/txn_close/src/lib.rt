@@ -1,4 +1,4 @@
-// Commit and roll back, on the books by value. 01 "The books", Commit, roll back; 004 III-B "LCE".
+// Commit and roll back, on the books by value. 01 "The books", Commit, roll back; 02 (i); 004 III-B "LCE".
 mod close;
 
 use close::Books;
@@ -49,10 +49,13 @@ fn close_at(clock: Clock, ts: RwTxns, deps: &mut [u64; DEPS_ALL], i: u64, waits:
     };
     let closed = books.close(deps, j, i, waits);
     let next = closed.settle(deps);
-    let c = next.clock;
-    let left = next.writers;
+    let c = next.books.clock;
+    let left = next.books.writers;
     Ended {
-        answer: Answer::Closed { lce: c.lce },
+        answer: Answer::Closed {
+            lce: c.lce,
+            oldest: next.oldest,
+        },
         clock: c,
         writers: left,
     }

@@ -12,7 +12,8 @@ use borrow.Author.Tests.{ltb-false, leb-true, leb-false, eqb-false, not-false}
 use Rattle.lists.proofs.Laws.Bools.{and-left, and-right}
 use Rattle.rules.specs.Limits.{lastEpoch, lastTicket, writersMax, readersMax, partitionsMax, rowsMax}
 use Rattle.rules.specs.Limits.{entriesMax}
-use Rattle.rules.specs.Manager.{hasOpen}
+use Rattle.rules.specs.Manager.{hasOpen, writersOf}
+use Rattle.rules.specs.Close.{oldestOpen}
 use Rattle.rules.specs.ReadOnly.{snapshotEpoch}
 use Rattle.rules.specs.Safe.{blocked, targetOf}
 use Rattle.rules.specs.Append.{appended}
@@ -27,7 +28,7 @@ use Rattle.rules.specs.declared.Refusal.the-variants.{UnknownPartition, NotOpen
 use Rattle.rules.specs.declared.Refusal.the-variants.{OutOfRange, Unsound, Exhausted, TxnsFull}
 use Rattle.rules.specs.declared.Refusal.the-variants.{RowsFull, EntriesFull, Blocked}
 use Rattle.rules.specs.declared.Answer.{Answer}
-use Rattle.rules.specs.declared.Answer.the-variants.{Begun, BegunRo}
+use Rattle.rules.specs.declared.Answer.the-variants.{Begun, Closed, BegunRo}
 use Rattle.laws.proofs.Laws.Answers.{refused}
 
 -- an accepted answer passed the test, and is the answer behind it
@@ -84,16 +85,17 @@ begin-passed sound m e =
     record { sound = not-false sound (a .test); last = eqb-false (m .clock .ec) (suc lastEpoch) (b .test);
       room = leb-false writersMax (m .writers .count) (c .test); is = a .is ∙ (b .is ∙ c .is) }
 
-pub record ClosePassed (i : ℕ) (b : Bool) (m : Manager) : Type 0 where
+pub record ClosePassed (i : ℕ) (b : Bool) (m next : Manager) : Type 0 where
   pub sound : b ≡ true
   pub pending : hasOpen i m ≡ true
+  pub is : closeAnswer i b m next ≡ Closed (next .clock .lce) (oldestOpen (writersOf next))
 
 pub close-passed : (i : ℕ) (sound : Bool) (m next : Manager) → accepted (closeAnswer i sound m next) ≡ true →
-    ClosePassed i sound m
+    ClosePassed i sound m next
 unfolding closeAnswer
 close-passed i sound m next e = let a = passed Unsound (not sound) _ e in let b = passed NotOpen (not (hasOpen i
     m)) _ (a .rest) in
-    record { sound = not-false sound (a .test); pending = not-false (hasOpen i m) (b .test) }
+    record { sound = not-false sound (a .test); pending = not-false (hasOpen i m) (b .test); is = a .is ∙ b .is }
 
 pub record BeginRoPassed (e : ℕ) (b : Bool) (m : Manager) : Type 0 where
   pub sound : b ≡ true

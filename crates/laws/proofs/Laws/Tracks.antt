@@ -117,7 +117,7 @@ module _ {m : Manager} {g : Ledger} (T : Tracks m g) where
   clear c = not (anyOf (λ w. ltb (w .name) c) (g .writers))
 
   -- a committed epoch above LCE waits, behind an open one
-  latest-below : (c : ℕ) → elem c (g .committed) ≡ true → clear c ≡ true → c ≤ m .clock .lce
+  pub latest-below : (c : ℕ) → elem c (g .committed) ≡ true → clear c ≡ true → c ≤ m .clock .lce
   latest-below c d n = or-cases (leb c (m .clock .lce)) (elem c (epochs (writersOf m))) (T .writers .done-known c d)
     (λ t. leb-true c (m .clock .lce) t)
     (λ h t. let w = Memᴰ·of-map (λ (x : Writer). x .epoch) (writersOf m) (elem-in c (epochs (writersOf m)) t) in

@@ -11,8 +11,9 @@ use lib.ListN.{length, take, drop, length-set, length-append, length-take, lengt
 use Rattle.lists.proofs.Laws.All.{All, All-append, All-take, All-drop, All-set}
 use Rattle.lists.proofs.Laws.Bools.{and-right}
 use Rattle.lists.proofs.Laws.Branches.{said}
-use Rattle.rules.specs.Manager.{Manager, Writer, noWriter, managerWith, managerIn, writersOf, withLce, opens}
-use Rattle.rules.specs.Close.{waitingTxn, committedTxns, droppedTxns, committedManager, rolledBackManager}
+use Rattle.rules.specs.Manager.{Manager, Writer, noWriter, managerWith, managerIn, writersOf, opens}
+use Rattle.rules.specs.Close.{waitingTxn, committedTxns, droppedTxns, oldestOpen, settled, committedManager}
+use Rattle.rules.specs.Close.{rolledBackManager}
 use Rattle.rules.specs.Calls.{closeAnswer}
 use Rattle.rules.specs.Store.{withManagerIn}
 use Rattle.rules.specs.WellFormed.{managerOk}
@@ -22,7 +23,8 @@ use Rattle.rules.specs.declared.RwTxns.{RwTxns}
 use Rattle.rules.specs.declared.Kept.{Kept}
 use Rattle.rules.specs.declared.State.{State}
 use Rattle.laws.proofs.Laws.Manager.{WriterFacts, manager-facts, opens-epoch}
-use Rattle.laws.proofs.Laws.Close.{committed-unsettled, dropped-unsettled}
+use Rattle.laws.proofs.Laws.Close.{Unsettled, committed-unsettled, dropped-unsettled}
+use Rattle.laws.proofs.Laws.Oldest.{oldest-settled}
 use Rattle.laws.proofs.Laws.Views.{Fits}
 use Rattle.txn.specs.Kept.{keptOf}
 use Rattle.txn.specs.Records.{writersWith, tableWith, viewed, Tidy}
@@ -33,11 +35,12 @@ use Rattle.txn_find.specs.declared.Found.{Found}
 use Rattle.txn_find.specs.declared.Found.the-variants.{At, Nothing}
 use Rattle.txn_find.proofs.Laws.Find.{writer-found, writer-stands, writer-none}
 use Rattle.txn_find.proofs.Laws.Places.{Sized}
-use Rattle.txn_close.specs.Close.{lead, runLce, booksWith, closedTxns, settledBooks, endedBy, tableBy}
+use Rattle.txn_close.specs.Close.{lead, firstOpen, booksWith, closedTxns, settledBy, endedBy, tableBy}
 use Rattle.txn_close.specs.Close.{closedManager}
 use Rattle.txn_close.specs.declared.Ended.{Ended}
 use Rattle.txn_close.specs.declared.close.Books.{Books}
-use Rattle.txn_close.proofs.Laws.Settle.{settled-runs}
+use Rattle.txn_close.specs.declared.close.Settled.{Settled}
+use Rattle.txn_close.proofs.Laws.Settle.{first-oldest, settled-runs}
 
 -- ---- one transaction closed: the others keep their rows
 
@@ -60,16 +63,14 @@ module _ {ts : RwTxns} {ds : List ℕ} (T : Tidy ts ds) (waits : Bool) (j i : �
     tidy-with (closedTxns waits j i (viewed ts ds)) (omega arith) closed-fits
 
 -- closed and ds are the books and the table once closed, q and es once settled
-pub settled-are : (c : Clock) (ws : List Writer) → All Fits ws → (closed q : Books) (ds es : List ℕ)
+pub settled-are : (c : Clock) (ws : List Writer) → All Fits ws → (closed : Books) (q : Settled) (ds es : List ℕ)
     → closed ≡ booksWith c ws → ds ≡ tableWith ws
     → (let vs = viewed (closed .writers) ds in
-      (q ≡ booksWith (withLce (runLce (closed .clock .lce) vs) (closed .clock)) (drop (lead vs) vs))
-      × (es ≡ tableWith (drop (lead vs) vs)))
-    → (q ≡ settledBooks c ws) × (es ≡ tableWith (drop (lead ws) ws))
+      (q ≡ settledBy (closed .clock) vs) × (es ≡ tableWith (drop (lead vs) vs)))
+    → (q ≡ settledBy c ws) × (es ≡ tableWith (drop (lead ws) ws))
 settled-are c ws fits closed q ds es a b e =
     let v = (λ i. viewed (a i .writers) (b i)) ∙ viewed-with ws fits in
-    (e .0 ∙ (λ i. booksWith (withLce (runLce (a i .clock .lce) (v i)) (a i .clock)) (drop (lead (v i)) (v i))),
-      e .1 ∙ (λ i. tableWith (drop (lead (v i)) (v i))))
+    (e .0 ∙ (λ i. settledBy (a i .clock) (v i)), e .1 ∙ (λ i. tableWith (drop (lead (v i)) (v i))))
 
 -- ---- the transactions of a manager, with the one found at place j closed, are settled as the rules say
 
@@ -83,13 +84,25 @@ module _ (m : Manager) (i : ℕ) {j : ℕ} (f : WriterFacts (m .clock) (writersO
   closed-is false = sym (drop-one (opens i) (λ (t : Writer). t .epoch) i (λ t o. opens-epoch i t o) (m .clock .ec)
     noWriter (m .clock .lce) (writersOf m) j (f .rising) at)
 
-  closed-settled : (waits : Bool) → let ws = closedTxns waits j i (writersOf m) in let b = settledBooks (m .clock) ws in
+  closed-settled : (waits : Bool)
+    → let ws = closedTxns waits j i (writersOf m) in let b = settledBy (m .clock) ws .books in
     managerWith (b .clock) (b .writers) (tableWith (drop (lead ws) ws)) (m .readers) ≡ closedManager waits i m
   unfolding committedManager rolledBackManager committedTxns droppedTxns
   closed-settled true = let ws = writersOf m in
     rw (closed-is true) (sym (settled-runs m (committedTxns i ws) (committed-unsettled (m .clock) ws f i .rising)))
   closed-settled false = let ws = writersOf m in
     rw (closed-is false) (sym (settled-runs m (droppedTxns i ws) (dropped-unsettled (m .clock) ws f i .rising)))
+
+  first-left : (ts : List Writer) → Unsettled (m .clock) ts → firstOpen ts ≡ oldestOpen (writersOf (settled ts m))
+  first-left ts u = first-oldest (m .clock .lce) (m .clock .ec) ts (u .rising) ∙ sym (oldest-settled m ts (u .fits))
+
+  closed-oldest : (waits : Bool)
+    → firstOpen (closedTxns waits j i (writersOf m)) ≡ oldestOpen (writersOf (closedManager waits i m))
+  unfolding committedManager rolledBackManager committedTxns droppedTxns
+  closed-oldest true = let ws = writersOf m in
+    rw (closed-is true) (first-left (committedTxns i ws) (committed-unsettled (m .clock) ws f i))
+  closed-oldest false = let ws = writersOf m in
+    rw (closed-is false) (first-left (droppedTxns i ws) (dropped-unsettled (m .clock) ws f i))
 
 -- ---- closing a transaction on the records and their table is closing it on the books
 
@@ -110,8 +123,9 @@ module _ (s : State) (z : Sized (managerIn s)) (rest : Bool) (yes : rest && mana
       ≡ keptOf (closeAnswer i (rest && managerOk m) m next) next s
   unfolding closeAnswer
   by-found (At j) a = let ok = and-right rest (managerOk m) yes in
-    let left : Manager → Kept = λ n. record { state = withManagerIn n s; answer = Closed (n .clock .lce) } in
-    ap left (closed-settled m i (manager-facts m ok .writers) (said (writer-found m i a) refl) waits)
+    let f = manager-facts m ok .writers in let at = said (writer-found m i a) refl in
+    let left : Manager → ℕ → Kept = λ n k. record { state = withManagerIn n s; answer = Closed (n .clock .lce) k } in
+    (λ k. left (closed-settled m i f at waits k) (closed-oldest m i f at waits k))
       ∙ rw (yes, writer-stands m i z a refl .any)
   by-found Nothing a = rw (yes, writer-none m i a refl .any)
 

@@ -1,29 +1,29 @@
--- Where the epochs rise, settling drops the records that wait before the first open one, and LCE is the last
--- of their epochs.
+-- Where the epochs rise, settling drops the records that wait before the first open one, LCE is the last of their
+-- epochs, and the first open one is the oldest.
 -- Definitions: specs/Close.antt; rules/specs/Close.antt.
--- In order: LCE, the records kept, the manager settled, records without their rows.
+-- In order: LCE, the records kept, the oldest open one, the manager settled, records without their rows.
 -- Assumes nothing.
-use mathlib.Core.Path.{_≡_, refl, ap, _∙_}
+use mathlib.Core.Path.{_≡_, refl, sym, ap, _∙_}
 use mathlib.Core.Bool.{true, false, not, cond}
 use mathlib.Core.List.{List, [], _∷_, map, foldr}
 use Prim.Native.Nat.{ℕ, suc, _≤_, _<_, max}
 use native.Mathlib.Omega.{arith}
 use lib.Dec.{eqb}
-use lib.ListN.{length, take, drop}
+use lib.ListN.{length, take, drop, getD}
 use borrow.Author.Tests.{lt-ltb, le-ltb, le-leb, lt-leb}
 use Rattle.lists.specs.Lists.{keepIf, rises}
 use Rattle.lists.proofs.Laws.Bools.{split, and-false}
-use Rattle.lists.proofs.Laws.Order.{rises-split}
+use Rattle.lists.proofs.Laws.Order.{rises-split, rises-keepIf, leastOf-rises}
 use Rattle.rules.specs.Limits.{depsMax}
-use Rattle.rules.specs.Manager.{Writer, view, views, isOpen, withClock, withWriters, withLce}
-use Rattle.rules.specs.Close.{unblocked, settledLce, settled}
+use Rattle.rules.specs.Manager.{Writer, view, views, isOpen, openEpochs, withClock, withWriters, withLce}
+use Rattle.rules.specs.Close.{unblocked, settledLce, oldestOpen, settled}
 use Rattle.rules.specs.declared.RwTxn.{RwTxn}
 use Rattle.rules.specs.declared.RwTxns.{RwTxns}
 use Rattle.rules.specs.Manager.{Manager}
 use Rattle.laws.proofs.Laws.Manager.{epochs}
 use Rattle.laws.proofs.Laws.Close.{reached, kept}
 use Rattle.txn.specs.Records.{viewed}
-use Rattle.txn_close.specs.Close.{lead, runLce, reachOf}
+use Rattle.txn_close.specs.Close.{lead, runLce, firstOpen, reachOf}
 use Rattle.txn_close.specs.declared.close.Reached.{Reached}
 
 -- ---- LCE
@@ -95,6 +95,17 @@ module _ (hi : ℕ) where
       (λ n. let ih = kept-run ts (t .epoch) (s .rest) in let up = run-up ts (t .epoch) (s .rest) in
         rw (n, le-ltb (runLce (t .epoch) ts) (t .epoch) up) ih)
 
+-- ---- the oldest open one
+
+first-listed : (ts : List Writer) → firstOpen ts ≡ getD (openEpochs ts) 0 0
+first-listed [] = refl
+first-listed (t ∷ ts) = split (isOpen t) (λ o. rw o) (λ n. rw n (first-listed ts))
+
+pub first-oldest : (lo hi : ℕ) (ts : List Writer) → rises lo hi (epochs ts) ≡ true → firstOpen ts ≡ oldestOpen ts
+unfolding oldestOpen
+first-oldest lo hi ts r = first-listed ts
+    ∙ sym (leastOf-rises lo hi (openEpochs ts) (rises-keepIf (λ (t : Writer). t .epoch) isOpen lo hi ts r))
+
 -- ---- the manager settled
 
 pub lead-length : (ts : List Writer) → lead ts ≤ length ts
@@ -123,7 +134,11 @@ run-bare : (lce : ℕ) (ds : List ℕ) (ts : List RwTxn) → runLce lce (map (vi
 run-bare lce ds [] = refl
 run-bare lce ds (t ∷ ts) = ap (λ n. cond (eqb (t .waiting) 0) lce n) (run-bare (t .epoch) (drop depsMax ds) ts)
 
+first-bare : (ds : List ℕ) (ts : List RwTxn) → firstOpen (map (view []) ts) ≡ firstOpen (views ds ts)
+first-bare ds [] = refl
+first-bare ds (t ∷ ts) = ap (λ n. cond (eqb (t .waiting) 0) (t .epoch) n) (first-bare (drop depsMax ds) ts)
+
 pub reached-is : (lce : ℕ) (ts : RwTxns) (ds : List ℕ) {r : Reached}
     → r ≡ reachOf lce (map (view []) (take (ts .count) (ts .at))) → r ≡ reachOf lce (viewed ts ds)
 reached-is lce ts ds e = let us = take (ts .count) (ts .at) in
-    e ∙ (λ i. record { lce = run-bare lce ds us i; count = lead-bare ds us i })
+    e ∙ (λ i. record { lce = run-bare lce ds us i; count = lead-bare ds us i; oldest = first-bare ds us i })

@@ -1,4 +1,4 @@
--- LCE is the last epoch passed before the first open record, and the records passed go, with their rows.
+-- LCE is the last epoch passed before the first open record, which is told; the records passed go, with their rows.
 -- Assumes nothing.
 use mathlib.Core.Path.{_≡_, sym, ap, _∙_}
 use Prim.Native.Nat.{_≤_}
@@ -30,8 +30,10 @@ returns c =
     let s = c .before .before in let a = s .args in let T = s .pre in
     let ws = viewed (a .self .writers) (a .deps .now) in
     let z : lead ws ≡ 0 = sym (ap (λ (r : Reached). r .count) (reached (c .before))) ∙ c .if1 .taken in
+    let l = reached (c .before) in
     rw (lead-none (a .self .clock .lce) ws z, z)
-      ((λ i. record { clock = a .self .clock; writers = T .records i }), T .table)
+      ((λ i. record { books = record { clock = a .self .clock; writers = T .records i }; oldest = l i .oldest }),
+        T .table)
 
 cut-words-requires : tie.Need-cut-words-requires
 cut-words-requires c κs = let r = c .before .before in let T = r .before .pre in let m = T .room in let k = few r in
@@ -48,7 +50,8 @@ returns-2 c =
     let e = cut-records T 0 (r .reach .result .count) (k .cut-writers .ensures .0) (k .cut-writers .ensures .1) in
     let t = w .cut-words .ensures ∙ cut-table T 0 (r .reach .result .count) in let l = reached r in
     let n = ap (λ (x : Reached). x .count) l in
-    rw (← n) ((λ i. record { clock = withLce (l i .lce) (a .self .clock); writers = e i }), t)
+    rw (← n) ((λ i. record {
+      books = record { clock = withLce (l i .lce) (a .self .clock); writers = e i }; oldest = l i .oldest }), t)
 
 pub settle-spec : {M : Type 1} → statement M
 settle-spec =
