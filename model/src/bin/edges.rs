@@ -116,7 +116,8 @@ fn edge(store: &mut Store, letter: u8, words: &[u64]) -> Vec<Line> {
             all
         }
         (b'f', [epoch, partition, count]) => {
-            let call = Call::Append { epoch: *epoch, partition: *partition, rows: vec![ROW; *count as usize] };
+            let call =
+                Call::Append { epoch: *epoch, partition: *partition, rows: vec![ROW; *count as usize] };
             repeated(store, &call, 1)
         }
         (b'b', [count, _]) => repeated(store, &Call::Begin, *count),
