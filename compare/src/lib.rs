@@ -162,6 +162,7 @@ pub fn numbers(answer: &Result<Answer, Refusal>) -> (u64, u64, u64) {
     match answer {
         Ok(Answer::Nothing) => (0, 0, 0),
         Ok(Answer::Value(value)) => (0, *value, 0),
+        Ok(Answer::Closed(closed)) => (0, closed.lce, closed.oldest),
         Ok(Answer::Purged(purged)) => (0, u64::from(purged.rewritten), 0),
         Ok(Answer::Scanned(scanned)) => (0, scanned.rows, scanned.ones),
         Err(refusal) => (refusal.number(), 0, 0),

@@ -1,7 +1,7 @@
 //! Calls and answers as values, so that histories can be kept, made at random and run (01, "A session").
 
 use crate::refusal::Refusal;
-use crate::store::{Purged, Scanned, Store};
+use crate::store::{Closed, Purged, Scanned, Store};
 use crate::visible::Reader;
 
 #[derive(Clone, Debug, PartialEq, Eq)]
@@ -50,6 +50,7 @@ pub enum Call {
 pub enum Answer {
     Nothing,
     Value(u64),
+    Closed(Closed),
     Purged(Purged),
     Scanned(Scanned),
 }
@@ -88,8 +89,8 @@ impl Call {
                 store.append(*epoch, *partition, rows).map(Answer::Value)
             }
             Call::Clear { epoch, partition } => store.clear(*epoch, *partition).map(Answer::Value),
-            Call::Commit { epoch } => store.commit(*epoch).map(Answer::Value),
-            Call::Rollback { epoch } => store.rollback(*epoch).map(Answer::Value),
+            Call::Commit { epoch } => store.commit(*epoch).map(Answer::Closed),
+            Call::Rollback { epoch } => store.rollback(*epoch).map(Answer::Closed),
             Call::Open { epoch } => store.open(*epoch).map(Answer::Value),
             Call::Close { ticket } => store.close(*ticket).map(Answer::Value),
             Call::MoveLse { target } => store.move_lse(*target).map(Answer::Value),

@@ -1,4 +1,4 @@
-//! The fixed cases as functions, told in words where they fail (01, "A session", "Marked for proof" and on).
+//! The fixed cases as functions, told in words where they fail (01, "A session" and on; 02, (i)).
 
 use crate::call::{Answer, Call};
 use crate::check::{Checked, Checks, Outcome};
@@ -12,7 +12,7 @@ pub type Told = Result<(), String>;
 pub type Case = (&'static str, fn() -> Told);
 
 /// All fixed cases by name.
-pub const CASES: [Case; 25] = [
+pub const CASES: [Case; 26] = [
     ("worked session", worked_session),
     ("cases 1 to 4", cases_1_to_4),
     ("cases 5 to 8", cases_5_to_8),
@@ -33,6 +33,7 @@ pub const CASES: [Case; 25] = [
     ("own clearing", own_clearing),
     ("rollback moves LCE", rollback_moves_lce),
     ("waiting load", waiting_load),
+    ("oldest open load", oldest_open_load),
     ("tickets", tickets),
     ("purge", purge),
     ("purge of an own clearing", purge_own_clearing),
@@ -81,8 +82,8 @@ fn worked_session() -> Told {
     lines(
         "B; A 1 0 10 11; B; A 2 0 20; C 1; R 0; D 2 0; S l2 0; C 2; S p1 0; R 0; S p2 0; L 2; E 1; \
          L 0; P 0; A 2 0 5",
-        "B 0 1; A 0 2; B 0 2; A 0 3; C 0 1; R 0 1; D 0 3; S 0 20; C 0 2; S 0 10 11; R 0 2; S 0; L 10; E 0 1; \
-         L 0 2; P 0 1; A 2",
+        "B 0 1; A 0 2; B 0 2; A 0 3; C 0 1 2; R 0 1; D 0 3; S 0 20; C 0 2 0; S 0 10 11; R 0 2; S 0; L 10; \
+         E 0 1; L 0 2; P 0 1; A 2",
     )
 }
 
@@ -162,11 +163,11 @@ fn cases_9_and_10() -> Told {
 }
 
 fn case_11() -> Told {
-    lines("B; B; B; C 1; C 3; C 2", "B 0 1; B 0 2; B 0 3; C 0 1; C 0 1; C 0 3")
+    lines("B; B; B; C 1; C 3; C 2", "B 0 1; B 0 2; B 0 3; C 0 1 2; C 0 1 2; C 0 3 0")
 }
 
 fn case_12() -> Told {
-    lines("B; B; C 1; L 1; L 0; C 2; L 1", "B 0 1; B 0 2; C 0 1; L 10; L 0 0; C 0 2; L 0 1")
+    lines("B; B; C 1; L 1; L 0; C 2; L 1", "B 0 1; B 0 2; C 0 1 2; L 10; L 0 0; C 0 2 0; L 0 1")
 }
 
 fn batch(count: u64) -> String {
@@ -197,7 +198,7 @@ fn edge_loads() -> Told {
     // The 33rd is refused, also while committed ones wait; a rolled-back one makes room.
     lines(
         &(input + "; B; C 5; B; X 6; B; B; C 1; B"),
-        &(output + "; B 7; C 0 0; B 7; X 0 0; B 0 33; B 7; C 0 1; B 0 34"),
+        &(output + "; B 7; C 0 0 1; B 7; X 0 0 1; B 0 33; B 7; C 0 1 2; B 0 34"),
     )
 }
 
@@ -242,7 +243,7 @@ fn edge_entries() -> Told {
     // 62 entries now. The 63rd and 64th fit; then only the last entry's end can move.
     lines(
         &format!("{input}; A 1 0 1; D 2 0; D 2 0; A 2 0 5; A 2 0; A 2 0{}; X 2; D 1 0; A 1 0 1", batch(500)),
-        &format!("{output}; A 0 63; D 0 64; D 9; A 9; A 0 63; A 8; X 0 0; D 0 2; A 0 33"),
+        &format!("{output}; A 0 63; D 0 64; D 9; A 9; A 0 63; A 8; X 0 0 1; D 0 2; A 0 33"),
     )?;
     lines(
         &format!("{input}; A 1 0 1; A 2 0 1; A 2 0 1 2; A 1 0 1; D 1 0"),
@@ -256,7 +257,7 @@ fn edge_names_end() -> Told {
         Store::new(last),
         last,
         "B; B; R 0; C 2147483647; R 0; L 0",
-        &format!("B 0 {last}; B 6; R 0 1; C 0 {last}; R 0 2; L 0 {}", last - 1),
+        &format!("B 0 {last}; B 6; R 0 1; C 0 {last} 0; R 0 2; L 0 {}", last - 1),
     )?;
     let mut store = Store::new(1);
     store.manager.ro.next = TICKET_END - 1;
@@ -272,47 +273,47 @@ fn edge_names_end() -> Told {
 fn wrong_lse() -> Told {
     lines(
         "B; A 1 0 10; B; A 2 0 20; C 2; B; C 1; L 2; L 1; L 0; P 0; S l3 0; C 3; L 0; P 0",
-        "B 0 1; A 0 1; B 0 2; A 0 2; C 0 0; B 0 3; C 0 2; L 10; L 10; L 0 0; P 0 0; S 0 20; C 0 3; L 0 3; \
-         P 0 1",
+        "B 0 1; A 0 1; B 0 2; A 0 2; C 0 0 1; B 0 3; C 0 2 3; L 10; L 10; L 0 0; P 0 0; S 0 20; C 0 3 0; \
+         L 0 3; P 0 1",
     )
 }
 
 fn wrong_clearing() -> Told {
     lines(
         "B; B; D 2 0; A 1 0 7; C 1; C 2; R 1; R 0; S p1 0; S p2 0",
-        "B 0 1; B 0 2; D 0 1; A 0 1; C 0 1; C 0 2; R 0 1; R 0 2; S 0 7; S 0",
+        "B 0 1; B 0 2; D 0 1; A 0 1; C 0 1 2; C 0 2 0; R 0 1; R 0 2; S 0 7; S 0",
     )
 }
 
 fn wrong_lce() -> Told {
     lines(
         "B; B; B; C 1; C 3; R 3; R 0; C 2; R 3",
-        "B 0 1; B 0 2; B 0 3; C 0 1; C 0 1; R 4; R 0 1; C 0 3; R 0 2",
+        "B 0 1; B 0 2; B 0 3; C 0 1 2; C 0 1 2; R 4; R 0 1; C 0 3 0; R 0 2",
     )
 }
 
 fn wrong_ends() -> Told {
     let input = "B; B; A 1 0 1 2; A 2 0 3; A 1 0 4; D 2 0; A 2 0 5; D 1 0; X 2; S l1 0; A 1 0 6";
-    let output = "B 0 1; B 0 2; A 0 2; A 0 3; A 0 4; D 0 4; A 0 5; D 0 6; X 0 0; S 0 1 2 4; A 0 4";
+    let output = "B 0 1; B 0 2; A 0 2; A 0 3; A 0 4; D 0 4; A 0 5; D 0 6; X 0 0 1; S 0 1 2 4; A 0 4";
     let store = lines_from(Store::new(1), 1, input, output)?;
     same("entries", entries_of_lot(&store, 0), vec![(1, 3, ROWS), (1, 3, CLEARING), (1, 4, ROWS)])
 }
 
 fn page_applies_last_clearing() -> Told {
-    lines("B; A 1 0 5; D 1 0; A 1 0 6; C 1; R 0; S p1 0", "B 0 1; A 0 1; D 0 2; A 0 2; C 0 1; R 0 1; S 0 6")
+    lines("B; A 1 0 5; D 1 0; A 1 0 6; C 1; R 0; S p1 0", "B 0 1; A 0 1; D 0 2; A 0 2; C 0 1 0; R 0 1; S 0 6")
 }
 
 fn own_clearing() -> Told {
     lines(
         "B; A 1 0 5; C 1; B; A 2 0 6; D 2 0; A 2 0 7; S l2 0; C 2; B; S l3 0",
-        "B 0 1; A 0 1; C 0 1; B 0 2; A 0 2; D 0 3; A 0 3; S 0 5 6 7; C 0 2; B 0 3; S 0 7",
+        "B 0 1; A 0 1; C 0 1 0; B 0 2; A 0 2; D 0 3; A 0 3; S 0 5 6 7; C 0 2 0; B 0 3; S 0 7",
     )
 }
 
 fn rollback_moves_lce() -> Told {
     lines(
         "B; B; B; C 2; C 3; X 1; R 0; R 2; L 0; X 1; C 3",
-        "B 0 1; B 0 2; B 0 3; C 0 0; C 0 0; X 0 3; R 0 1; R 0 2; L 0 2; X 2; C 2",
+        "B 0 1; B 0 2; B 0 3; C 0 0 1; C 0 0 1; X 0 3 0; R 0 1; R 0 2; L 0 2; X 2; C 2",
     )
 }
 
@@ -320,8 +321,15 @@ fn waiting_load() -> Told {
     // A waiting load is seen by a load that begins after it, and does nothing any more.
     lines(
         "B; B; A 2 0 5; A 1 0 6; C 2; B; S l3 0; S l2 0; A 2 0 1; D 2 0; X 2; C 2; A 2 9",
-        "B 0 1; B 0 2; A 0 1; A 0 2; C 0 0; B 0 3; S 0 5; S 2; A 2; D 2; X 2; C 2; A 1",
+        "B 0 1; B 0 2; A 0 1; A 0 2; C 0 0 1; B 0 3; S 0 5; S 2; A 2; D 2; X 2; C 2; A 1",
     )
+}
+
+fn oldest_open_load() -> Told {
+    // The closed load is not named, and neither is a waiting one.
+    lines("B; B; C 2; C 1", "B 0 1; B 0 2; C 0 0 1; C 0 2 0")?;
+    lines("B; B; B; C 2; X 1", "B 0 1; B 0 2; B 0 3; C 0 0 1; X 0 2 3")?;
+    lines("B; X 1", "B 0 1; X 0 0 0")
 }
 
 fn tickets() -> Told {
@@ -333,8 +341,8 @@ fn purge() -> Told {
     let input =
         "P 0; B; A 1 0 1; C 1; P 0; B; A 2 0 2; C 2; L 1; P 0; L 2; P 0; P 0; B; D 3 0; C 3; L 0; P 0; P 8";
     let output =
-        "P 0 0; B 0 1; A 0 1; C 0 1; P 0 0; B 0 2; A 0 2; C 0 2; L 0 1; P 0 0; L 0 2; P 0 1; P 0 0; \
-                  B 0 3; D 0 2; C 0 3; L 0 3; P 0 1; P 1";
+        "P 0 0; B 0 1; A 0 1; C 0 1 0; P 0 0; B 0 2; A 0 2; C 0 2 0; L 0 1; P 0 0; L 0 2; P 0 1; P 0 0; \
+                  B 0 3; D 0 2; C 0 3 0; L 0 3; P 0 1; P 1";
     let store = lines_from(Store::new(1), 1, input, output)?;
     same("entries", entries_of_lot(&store, 0), Vec::new())?;
     same("area", (store.manager.partitions.at[0].area, store.manager.partitions.spare), (0, 8))?;
@@ -345,7 +353,8 @@ fn purge_own_clearing() -> Told {
     // Of one epoch, the rows before its clearing go and the rows after it stay.
     lines(
         "B; B; A 1 0 1; A 2 0 2; D 2 0; A 2 0 3; A 1 0 4; C 1; C 2; L 0; P 0; P 0; R 0; S p1 0",
-        "B 0 1; B 0 2; A 0 1; A 0 2; D 0 3; A 0 3; A 0 4; C 0 1; C 0 2; L 0 2; P 0 1; P 0 0; R 0 1; S 0 3",
+        "B 0 1; B 0 2; A 0 1; A 0 2; D 0 3; A 0 3; A 0 4; C 0 1 2; C 0 2 0; L 0 2; P 0 1; P 0 0; R 0 1; \
+         S 0 3",
     )
 }
 
@@ -354,7 +363,7 @@ fn rollback() -> Told {
     let input =
         "B; B; A 1 2 1; A 2 2 2; A 1 2 3; A 2 5 4; A 1 7 5; D 2 0; X 2; S l1 2; S l1 5; A 1 2 6; C 1; X 1";
     let output =
-        "B 0 1; B 0 2; A 0 1; A 0 2; A 0 3; A 0 1; A 0 1; D 0 1; X 0 0; S 0 1 3; S 0; A 0 3; C 0 1; X 2";
+        "B 0 1; B 0 2; A 0 1; A 0 2; A 0 3; A 0 1; A 0 1; D 0 1; X 0 0 1; S 0 1 3; S 0; A 0 3; C 0 1 0; X 2";
     let store = lines_from(Store::new(1), 1, input, output)?;
     let areas: Vec<u64> = store.manager.partitions.at.iter().map(|partition| partition.area).collect();
     same("areas", (areas, store.manager.partitions.spare), (vec![8, 1, 0, 3, 4, 2, 6, 7], 5))?;
@@ -391,7 +400,7 @@ fn gap() -> Told {
         ("L 0", "L 0 2"),
         ("P 0", "P 0 1"),
         ("S l3 0", "S 0 34 35"),
-        ("X 3", "X 0 2"),
+        ("X 3", "X 0 2 0"),
         ("S p6 0", "S 0"),
     ] {
         same(line, session.answer(line.as_bytes()).as_str(), expected)?;

@@ -8,7 +8,7 @@ use crate::partition::{entries_of, rows_of, CLEARING, ROWS};
 use crate::refusal::Refusal;
 use crate::session::{parse, print, Session};
 use crate::sound::{broken_clauses, well_formed};
-use crate::store::Store;
+use crate::store::{Closed, Store};
 use crate::visible::{bytes_needed, Reader};
 use crate::{AREA_ENTRIES, AREA_ROWS, DEPS, LAST_EPOCH, PARTITIONS, TICKET_END, TXNS};
 use std::collections::BTreeSet;
@@ -30,6 +30,11 @@ pub enum Edge {
     RollbackMovedLce,
     CommitWaits,
     LcePassedWaiting,
+    CommitNamesEarlier,
+    CommitNamesLater,
+    CommitNamesNone,
+    RollbackNamesOne,
+    RollbackNamesNone,
     RowsAll512,
     Row513,
     EntriesAll64ByAppend,
@@ -56,7 +61,7 @@ pub enum Edge {
 }
 
 impl Edge {
-    pub const ALL: [Edge; 37] = [
+    pub const ALL: [Edge; 42] = [
         Edge::PurgeSkipped,
         Edge::PurgeRewritten,
         Edge::PurgeJoined,
@@ -71,6 +76,11 @@ impl Edge {
         Edge::RollbackMovedLce,
         Edge::CommitWaits,
         Edge::LcePassedWaiting,
+        Edge::CommitNamesEarlier,
+        Edge::CommitNamesLater,
+        Edge::CommitNamesNone,
+        Edge::RollbackNamesOne,
+        Edge::RollbackNamesNone,
         Edge::RowsAll512,
         Edge::Row513,
         Edge::EntriesAll64ByAppend,
@@ -296,6 +306,7 @@ impl Checked {
             self.feed(call, number, &answer);
             // A refusal left the store and the ledger as they were: the last comparison still stands.
             if number == 0 {
+                self.compare_oldest(call, &answer).map_err(|what| format!("{call:?}: {what}"))?;
                 self.compare_with_ledger().map_err(|what| format!("{call:?}: {what}"))?;
             }
         }
@@ -318,6 +329,24 @@ impl Checked {
             Call::Close { ticket } => self.ledger.close(*ticket, number),
             Call::MoveLse { .. } | Call::Purge { .. } | Call::Scan { .. } => {}
         }
+    }
+
+    /// A commit or rollback names the oldest load open in the ledger, or none; and where a commit leaves LCE below
+    /// its load, the one named is open and stands between the two (02, (i)).
+    fn compare_oldest(&self, call: &Call, answer: &Result<Answer, Refusal>) -> Result<(), String> {
+        let Ok(Answer::Closed(Closed { lce, oldest })) = *answer else {
+            return Ok(());
+        };
+        if let Call::Commit { epoch } = *call {
+            let holds_back = self.ledger.rw_is_open(oldest) && lce < oldest && oldest < epoch;
+            if lce < epoch && !holds_back {
+                return Err(format!("LCE is {lce}, and {oldest} does not hold it back"));
+            }
+        }
+        if oldest != self.ledger.oldest_open() {
+            return Err(format!("names {oldest}, the ledger {}", self.ledger.oldest_open()));
+        }
+        Ok(())
     }
 
     /// On every lot, the scan shows each open reader what the ledger shows it, and no other reader anything.
@@ -400,6 +429,10 @@ impl Checked {
             return;
         }
         let accepted = number == 0;
+        let oldest = match answer {
+            Ok(Answer::Closed(closed)) => closed.oldest,
+            _ => 0,
+        };
         let (old, new) = (&before.manager, &store.manager);
         match call {
             Call::Append { partition, rows, .. } if *partition < 8 => {
@@ -428,9 +461,12 @@ impl Checked {
                 coverage.meet(Edge::Deps31, accepted && deps == DEPS as u64);
                 coverage.meet(Edge::LastEpoch, accepted && old.clock.ec == LAST_EPOCH);
             }
-            Call::Commit { .. } if accepted => {
+            Call::Commit { epoch } if accepted => {
                 coverage.meet(Edge::CommitWaits, new.rw.count == old.rw.count);
                 coverage.meet(Edge::LcePassedWaiting, new.rw.count + 1 < old.rw.count);
+                coverage.meet(Edge::CommitNamesEarlier, 0 < oldest && oldest < *epoch);
+                coverage.meet(Edge::CommitNamesLater, *epoch < oldest);
+                coverage.meet(Edge::CommitNamesNone, oldest == 0);
             }
             Call::Rollback { epoch } if accepted => {
                 let mut touched = 0;
@@ -448,6 +484,8 @@ impl Checked {
                 coverage.meet(Edge::RollbackTouchedNone, touched == 0);
                 coverage.meet(Edge::RollbackTouchedMany, touched > 1);
                 coverage.meet(Edge::RollbackMovedLce, new.clock.lce > old.clock.lce);
+                coverage.meet(Edge::RollbackNamesOne, oldest > 0);
+                coverage.meet(Edge::RollbackNamesNone, oldest == 0);
             }
             Call::Open { .. } if accepted => {
                 let ro_txn = new.ro.used().last().copied().unwrap_or_default();

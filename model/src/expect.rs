@@ -1,4 +1,4 @@
-//! A second reading of each call: refusals as a table, rows one by one (01, "The books", "Lots", refusals).
+//! A second reading of calls: refusals as a table, row by row (01, "The books", "Lots", refusals; 02, (i)).
 //!
 //! It uses the shape of the books, the test of *sound*, and nothing else of the store's code, so that the two
 //! can be compared word for word.
@@ -6,7 +6,7 @@
 use crate::call::{Answer, Call};
 use crate::partition::{Entry, Partition};
 use crate::sound::{lengths_right, well_formed};
-use crate::store::{LivePart, Manager, Purged, Scanned, Store};
+use crate::store::{Closed, LivePart, Manager, Purged, Scanned, Store};
 use crate::txn::{RoTxn, RwTxn};
 use crate::visible::Reader;
 use std::collections::{BTreeMap, BTreeSet};
@@ -284,7 +284,7 @@ fn accepted(store: &mut Store, call: &Call, bitmap: &mut [u8]) -> Answer {
         Call::Commit { epoch } => {
             let mut rw_txns = rw_txns(&store.manager);
             rw_txns.insert(*epoch, (true, Vec::new()));
-            let_go_of_settled(&mut store.manager, rw_txns)
+            return Answer::Closed(let_go_of_settled(&mut store.manager, rw_txns));
         }
         Call::Rollback { epoch } => {
             for p in 0..8 {
@@ -296,7 +296,7 @@ fn accepted(store: &mut Store, call: &Call, bitmap: &mut [u8]) -> Answer {
             }
             let mut rw_txns = rw_txns(&store.manager);
             rw_txns.remove(epoch);
-            let_go_of_settled(&mut store.manager, rw_txns)
+            return Answer::Closed(let_go_of_settled(&mut store.manager, rw_txns));
         }
         Call::Open { epoch } => {
             let books = &mut store.manager;
@@ -378,14 +378,16 @@ fn put_rw_txns(books: &mut Manager, rw_txns: &RwTxns) {
     books.rw.count = rw_txns.len() as u64;
 }
 
-/// From the lowest epoch up: committed loads move LCE and go, until the first open one.
-fn let_go_of_settled(books: &mut Manager, mut rw_txns: RwTxns) -> u64 {
+/// From the lowest epoch up: committed loads move LCE and go, until the first open one, which is the oldest.
+fn let_go_of_settled(books: &mut Manager, mut rw_txns: RwTxns) -> Closed {
+    let mut oldest = 0;
     while let Some(first) = rw_txns.first_entry() {
         if !first.get().0 {
+            oldest = *first.key();
             break;
         }
         books.clock.lce = first.remove_entry().0;
     }
     put_rw_txns(books, &rw_txns);
-    books.clock.lce
+    Closed { lce: books.clock.lce, oldest }
 }

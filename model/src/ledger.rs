@@ -110,6 +110,15 @@ impl Ledger {
         newest
     }
 
+    /// The oldest open load, or 0 (02, (i)).
+    pub fn oldest_open(&self) -> u64 {
+        self.rw_txns().find(|&(_, is_open)| is_open).map_or(0, |(epoch, _)| epoch)
+    }
+
+    pub fn rw_is_open(&self, epoch: u64) -> bool {
+        self.rw.get(&epoch).is_some_and(|line| line.state == State::Open)
+    }
+
     /// All loads ever begun, with whether each is open.
     pub fn rw_txns(&self) -> impl Iterator<Item = (u64, bool)> + '_ {
         self.rw.iter().map(|(&epoch, line)| (epoch, line.state == State::Open))

@@ -1,4 +1,4 @@
-//! The line program: its grammar, its answers, and the reading of lines (01, "A session").
+//! The line program: its grammar, its answers, and the reading of lines (01, "A session"; 02, (i)).
 
 use crate::call::{number_of, Answer, Call};
 use crate::partition::rows_of;
@@ -112,6 +112,7 @@ pub fn print(call: &Call, answer: &Result<Answer, Refusal>, store: &Store, bitma
     let mut line = format!("{letter} {}", number_of(answer));
     match (call, answer) {
         (_, Ok(Answer::Value(value))) => line.push_str(&format!(" {value}")),
+        (_, Ok(Answer::Closed(closed))) => line.push_str(&format!(" {} {}", closed.lce, closed.oldest)),
         (_, Ok(Answer::Purged(purged))) => line.push_str(if purged.rewritten { " 1" } else { " 0" }),
         (Call::Scan { partition, .. }, Ok(Answer::Scanned(_))) => {
             let rows = rows_of(&store.manager.partitions.at[*partition as usize], &store.rows);

@@ -36,6 +36,13 @@ pub struct LivePart {
     pub count: u64,
 }
 
+/// What commit and rollback answer: LCE, and the oldest open epoch, or 0 (02, (i)).
+#[derive(Clone, Copy, Debug, PartialEq, Eq)]
+pub struct Closed {
+    pub lce: u64,
+    pub oldest: u64,
+}
+
 #[derive(Clone, Copy, Debug, PartialEq, Eq)]
 pub struct Purged {
     pub rewritten: bool,
@@ -189,28 +196,33 @@ impl Store {
         Ok(self.manager.partitions.at[p].entries)
     }
 
-    /// Commits a load; answers LCE.
-    pub fn commit(&mut self, epoch: u64) -> Result<u64, Refusal> {
+    /// Commits a load; answers LCE and the oldest open epoch.
+    pub fn commit(&mut self, epoch: u64) -> Result<Closed, Refusal> {
         self.refuse_ill_formed()?;
         self.refuse_not_open(epoch)?;
+        let before = wrong(Variant::OldestBeforeClose).then(|| self.manager.rw.oldest_open());
         self.manager.rw.commit(epoch);
-        self.manager.rw.settle(&mut self.manager.clock);
+        let oldest = self.manager.rw.settle(&mut self.manager.clock);
         if wrong(Variant::DepsForgetClosed) {
             self.manager.rw.forget(epoch);
         }
-        Ok(self.manager.clock.lce)
+        Ok(Closed { lce: self.manager.clock.lce, oldest: before.unwrap_or(oldest) })
     }
 
-    /// Rolls a load back; answers LCE.
-    pub fn rollback(&mut self, epoch: u64) -> Result<u64, Refusal> {
+    /// Rolls a load back; answers LCE and the oldest open epoch.
+    pub fn rollback(&mut self, epoch: u64) -> Result<Closed, Refusal> {
         self.refuse_ill_formed()?;
         self.refuse_not_open(epoch)?;
+        let before = wrong(Variant::OldestBeforeClose).then(|| self.manager.rw.oldest_open());
         self.areas().rollback(epoch);
         self.manager.rw.rollback(epoch);
-        if !wrong(Variant::RollbackKeepsLce) {
-            self.manager.rw.settle(&mut self.manager.clock);
-        }
-        Ok(self.manager.clock.lce)
+        let oldest = if wrong(Variant::RollbackKeepsLce) {
+            self.manager.rw.oldest_open()
+        } else {
+            self.manager.rw.settle(&mut self.manager.clock)
+        };
+        let oldest = if wrong(Variant::OldestOnlyByCommit) { 0 } else { oldest };
+        Ok(Closed { lce: self.manager.clock.lce, oldest: before.unwrap_or(oldest) })
     }
 
     /// Opens a page at an epoch, 0 meaning LCE; answers its ticket.

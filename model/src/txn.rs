@@ -68,6 +68,14 @@ impl RwTable {
         self.open().find(|txn| txn.epoch == epoch)
     }
 
+    /// The oldest open epoch, or 0.
+    pub fn oldest_open(&self) -> u64 {
+        let named = |txn: &&RwTxn| txn.is_open() || wrong(Variant::OldestMayWait);
+        let epochs = self.used().iter().filter(named).map(|txn| txn.epoch);
+        let oldest = if wrong(Variant::NewestNamed) { epochs.max() } else { epochs.min() };
+        oldest.unwrap_or(0)
+    }
+
     /// A new open load; its deps are the loads open just before.
     pub fn begin(&mut self, epoch: u64) {
         let mut txn = RwTxn { epoch, waiting: OPEN, deps: [0; DEPS], deps_count: 0 };
@@ -96,8 +104,9 @@ impl RwTable {
     }
 
     /// LCE becomes the greatest committed epoch with no open load below it, if that is newer.
-    /// Then the waiting loads that LCE has reached leave their places.
-    pub fn settle(&mut self, clock: &mut Clock) {
+    /// Then the waiting loads that LCE has reached leave their places. Answers the oldest open epoch, or 0.
+    pub fn settle(&mut self, clock: &mut Clock) -> u64 {
+        let before = clock.lce;
         let first_open = self.open().map(|txn| txn.epoch).min();
         let nothing_open_below = |epoch: u64| match first_open {
             Some(open) => epoch < open || wrong(Variant::LcePastOpen),
@@ -108,7 +117,10 @@ impl RwTable {
             clock.lce = newest;
         }
         let lce = clock.lce;
+        let oldest =
+            if wrong(Variant::OldestOnlyIfLceStays) && lce > before { 0 } else { self.oldest_open() };
         self.keep(|txn| txn.epoch > lce && (txn.is_open() || !wrong(Variant::WaitingFreesPlace)));
+        oldest
     }
 
     /// Keeps the records that `stays` names, in order; places no longer used become 0.

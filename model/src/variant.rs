@@ -1,4 +1,4 @@
-//! Wrong readings of 01, one changed line each, for the tests (01, "Where hands go wrong", "Agreed").
+//! Wrong readings, one changed line each, for the tests (01, "Where hands go wrong", "Agreed"; 02, (i)).
 //!
 //! Outside this crate's own unit tests `wrong` is always false, so the store has none of them.
 
@@ -54,10 +54,20 @@ pub enum Variant {
     AppendPart,
     /// An empty batch adds an entry.
     EmptyBatchAddsEntry,
+    /// The oldest open load is looked for before the load is closed.
+    OldestBeforeClose,
+    /// A commit or rollback that moves LCE names no load.
+    OldestOnlyIfLceStays,
+    /// A rollback names no load.
+    OldestOnlyByCommit,
+    /// The oldest load is named though it waits.
+    OldestMayWait,
+    /// The newest open load is named.
+    NewestNamed,
 }
 
 impl Variant {
-    pub const ALL: [Variant; 25] = [
+    pub const ALL: [Variant; 30] = [
         Variant::PageAppliesBelowOnly,
         Variant::RollbackKeepsLce,
         Variant::LseByOpenEpochs,
@@ -83,6 +93,11 @@ impl Variant {
         Variant::ScanSetsUnusedBits,
         Variant::AppendPart,
         Variant::EmptyBatchAddsEntry,
+        Variant::OldestBeforeClose,
+        Variant::OldestOnlyIfLceStays,
+        Variant::OldestOnlyByCommit,
+        Variant::OldestMayWait,
+        Variant::NewestNamed,
     ];
 }
 

@@ -1,4 +1,4 @@
-//! Each wrong reading must be told from the right one (01, "Where hands go wrong" and "Agreed").
+//! Each wrong reading must be told from the right one (01, "Where hands go wrong" and "Agreed"; 02, (i)).
 
 use crate::cases::CASES;
 use crate::check::{run_history, Checks};
@@ -78,6 +78,11 @@ fn each_named_hand_is_told_by_its_own_case() {
         (Variant::ClearHidesBeforeOnly, "wrong: clearing hides before only"),
         (Variant::LcePastOpen, "wrong: LCE past an open load"),
         (Variant::OldEndsKept, "wrong: old ends after rollback"),
+        (Variant::OldestBeforeClose, "oldest open load"),
+        (Variant::OldestOnlyIfLceStays, "oldest open load"),
+        (Variant::OldestOnlyByCommit, "oldest open load"),
+        (Variant::OldestMayWait, "oldest open load"),
+        (Variant::NewestNamed, "oldest open load"),
     ] {
         let (_, case) = CASES.into_iter().find(|(name, _)| *name == named).expect("a case of that name");
         choose(Some(variant));

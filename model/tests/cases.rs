@@ -1,4 +1,4 @@
-//! The fixed cases, and the session's line grammar (01, "A session", "Marked for proof" and on).
+//! The fixed cases, and the session's line grammar (01, "A session" and on; 02, (i)).
 
 use model::cases::CASES;
 use model::session::{Session, LONGEST_LINE};
@@ -117,7 +117,7 @@ fn words_and_numbers() {
         (b"A 01 000 18446744073709551615", "A 0 1"),
         (b"A 1 0 000000000000000000000000000000000000000000000005", "A 0 2"),
         (b"S l0000000000000000000000000000000000001 00", "S 0 18446744073709551615 5"),
-        (b"C 0000000000000000000000000000000000000000000001", "C 0 1"),
+        (b"C 0000000000000000000000000000000000000000000001", "C 0 1 0"),
     ];
     let mut session = Session::default();
     session.answer(b"B");
@@ -137,14 +137,14 @@ fn long_lines() {
     assert_eq!(numbers(8189).len() + 1, LONGEST_LINE);
     let input = |line: &[u8]| [b"B\n", line, b"\nC 1\n"].concat();
     // The lot is then a long number that is 0.
-    assert_eq!(printed(&input(&filled(LONGEST_LINE))), "B 0 1\nA 0 0\nC 0 1\n");
-    assert_eq!(printed(&input(&filled(LONGEST_LINE + 1))), "B 0 1\n?\nC 0 1\n");
-    assert_eq!(printed(&input(&filled(LONGEST_LINE + 2))), "B 0 1\n?\nC 0 1\n");
-    assert_eq!(printed(&input(&filled(1_000_000))), "B 0 1\n?\nC 0 1\n");
+    assert_eq!(printed(&input(&filled(LONGEST_LINE))), "B 0 1\nA 0 0\nC 0 1 0\n");
+    assert_eq!(printed(&input(&filled(LONGEST_LINE + 1))), "B 0 1\n?\nC 0 1 0\n");
+    assert_eq!(printed(&input(&filled(LONGEST_LINE + 2))), "B 0 1\n?\nC 0 1 0\n");
+    assert_eq!(printed(&input(&filled(1_000_000))), "B 0 1\n?\nC 0 1 0\n");
     assert_eq!(printed(&filled(1_000_000)), "?\n");
-    assert_eq!(printed(&input(&numbers(512))), "B 0 1\nA 0 512\nC 0 1\n");
-    assert_eq!(printed(&input(&numbers(513))), "B 0 1\nA 8\nC 0 1\n");
-    assert_eq!(printed(&input(&numbers(8189))), "B 0 1\nA 8\nC 0 1\n");
-    assert_eq!(printed(&input(&numbers(8190))), "B 0 1\n?\nC 0 1\n");
+    assert_eq!(printed(&input(&numbers(512))), "B 0 1\nA 0 512\nC 0 1 0\n");
+    assert_eq!(printed(&input(&numbers(513))), "B 0 1\nA 8\nC 0 1 0\n");
+    assert_eq!(printed(&input(&numbers(8189))), "B 0 1\nA 8\nC 0 1 0\n");
+    assert_eq!(printed(&input(&numbers(8190))), "B 0 1\n?\nC 0 1 0\n");
     assert_eq!(printed(&numbers(8189)), "A 2\n");
 }

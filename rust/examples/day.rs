@@ -4,7 +4,7 @@
 //! with status 1. 01's words are used here: a lot is a partition, a load a read-write transaction, a page a read-only
 //! one.
 
-use nizgulk::{Epoch, Reader, Refusal, Store};
+use nizgulk::{Closed, Epoch, Reader, Refusal, Store};
 use std::error::Error;
 
 /// The lots of the day.
@@ -40,6 +40,16 @@ fn load(store: &mut Store, by: Epoch, lot: u64, rows: &[u64], shown: &mut Shown)
     Ok(())
 }
 
+/// Commits a load, and prints which one holds it back.
+fn commit(store: &mut Store, txn: Epoch) -> Result<Closed, Refusal> {
+    let closed = store.commit(txn)?;
+    match closed.oldest {
+        Some(oldest) if closed.lce < txn => println!("load {txn} is committed, and load {oldest} holds it back"),
+        _ => println!("load {txn} is committed: LCE is {}", closed.lce),
+    }
+    Ok(closed)
+}
+
 /// Scans every lot, prints what it shows, and holds it to what it ought to show.
 fn scan(store: &Store, who: &str, reader: impl Into<Reader>, ought: &Shown) -> Result<(), Box<dyn Error>> {
     let reader = reader.into();
@@ -69,10 +79,8 @@ fn main() -> Result<(), Box<dyn Error>> {
 
     // The later load is committed first: it lands only when no earlier one is open.
     let lce = store.lce();
-    same("LCE", store.commit(second)?, lce)?;
-    println!("load {second} is committed, and waits for load {first}");
-    same("LCE", store.commit(first)?, second)?;
-    println!("load {first} is committed: LCE is {}", store.lce());
+    same("what bench 2 is told", commit(&mut store, second)?, Closed { lce, oldest: Some(first) })?;
+    same("what bench 1 is told", commit(&mut store, first)?, Closed { lce: second, oldest: None })?;
     let morning: Shown = std::array::from_fn(|lot| [by_first[lot].as_slice(), &by_second[lot]].concat());
 
     // The order page is opened, and stays open.

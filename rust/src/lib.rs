@@ -41,7 +41,7 @@ mod store;
 pub use names::{Epoch, Reader, Ticket};
 pub use refusal::Refusal;
 pub use scan::Scan;
-pub use store::{Purged, Store};
+pub use store::{Closed, Purged, Store};
 
 /// The calls over books and areas of any words and any lengths, as the static library has them. Each copies the
 /// books, changes the lent areas in place, and replies with the books after the call: those are for the caller to

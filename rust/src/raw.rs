@@ -17,7 +17,7 @@ pub struct Reply {
     pub number: u64,
     /// What it answers: an epoch, a ticket or a count; 0 if it was refused.
     pub value: u64,
-    /// 0: only a scan has a second value.
+    /// Of a commit and a roll back: the oldest read-write transaction (01: load) still open, or 0; 0 of another call.
     pub second: u64,
     /// The first of the lent rows that a purge answers with; 0 of another call.
     pub from: usize,
@@ -196,14 +196,16 @@ pub fn clear(books: &Books, entries: &mut [Entry], rows: &mut [u64], txn: u64, p
     unsafe { nizgulk_clear(*books, es, es_len, rs, rs_len, txn, partition) }
 }
 
-/// Commits a read-write transaction (01: load). Value: LCE. Refusals, in this order: 5, 2.
+/// Commits a read-write transaction (01: load). Values: LCE, and the oldest open epoch or 0.
+/// Refusals, in this order: 5, 2.
 #[inline]
 pub fn commit(books: &Books, entries: &[Entry], rows: &[u64], txn: u64) -> Reply {
     // Safety: as said above.
     unsafe { nizgulk_commit(*books, entries.as_ptr(), entries.len(), rows.as_ptr(), rows.len(), txn) }
 }
 
-/// Rolls back a read-write transaction (01: load). Value: LCE. Refusals, in this order: 5, 2.
+/// Rolls back a read-write transaction (01: load). Values: LCE, and the oldest open epoch or 0.
+/// Refusals, in this order: 5, 2.
 #[inline]
 pub fn roll_back(books: &Books, entries: &mut [Entry], rows: &mut [u64], txn: u64) -> Reply {
     // Safety: as said above.

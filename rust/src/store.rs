@@ -44,6 +44,16 @@ layout!(Store, 8 * STORE_WORDS, {
     books: 0, entries: BOOKS_BYTES, rows: BOOKS_BYTES + ENTRIES_LENT * ENTRY_BYTES
 });
 
+/// What a commit and a roll back answer.
+#[derive(Clone, Copy, Debug, PartialEq, Eq)]
+pub struct Closed {
+    /// LCE, the latest committed epoch.
+    pub lce: Epoch,
+    /// The oldest read-write transaction (01: load) that is still open: what holds LCE back if LCE is below the epoch
+    /// just committed.
+    pub oldest: Option<Epoch>,
+}
+
 /// What a purge answers.
 #[derive(Clone, Copy, Debug, PartialEq, Eq)]
 pub struct Purged<'a> {
@@ -89,6 +99,13 @@ impl Store {
         Ok(reply.value)
     }
 
+    /// What a commit and a roll back answer, the books taken.
+    fn keep_closed(&mut self, reply: &Reply) -> Result<Closed, Refusal> {
+        let lce = self.keep(reply).map(Epoch::new)?;
+        let oldest = (reply.second != 0).then_some(Epoch::new(reply.second));
+        Ok(Closed { lce, oldest })
+    }
+
     /// Begins a read-write transaction (01: load), which is named by the epoch that is answered. What it sees is itself
     /// and what was committed before it began. Refusals: 5, 6, 7.
     ///
@@ -98,7 +115,7 @@ impl Store {
     /// let first = store.begin()?;
     /// let second = store.begin()?;
     /// store.append(first, 0, &[10])?;
-    /// assert_eq!(store.commit(first)?, first);
+    /// assert_eq!(store.commit(first)?.lce, first);
     /// // The second began while the first was open, and goes on without it.
     /// assert_eq!(store.scan(second, 0)?.len(), 0);
     /// # Ok::<(), Refusal>(())
@@ -152,36 +169,38 @@ impl Store {
     }
 
     /// Commits a read-write transaction (01: load): all that it wrote lands. Answers LCE, which stays behind while an
-    /// earlier transaction is open. Refusals: 5, 2.
+    /// earlier transaction is open, and the oldest that is open. Refusals: 5, 2.
     ///
     /// ```
-    /// use nizgulk::{Epoch, Refusal, Store};
+    /// use nizgulk::{Closed, Epoch, Refusal, Store};
     /// let mut store = Store::new(Epoch::FIRST)?;
     /// let (first, second) = (store.begin()?, store.begin()?);
-    /// assert_eq!(store.commit(second)?, Epoch::new(0));
-    /// assert_eq!(store.commit(first)?, second);
+    /// // The first holds the second back.
+    /// assert_eq!(store.commit(second)?, Closed { lce: Epoch::new(0), oldest: Some(first) });
+    /// assert_eq!(store.commit(first)?, Closed { lce: second, oldest: None });
     /// # Ok::<(), Refusal>(())
     /// ```
-    pub fn commit(&mut self, txn: Epoch) -> Result<Epoch, Refusal> {
+    pub fn commit(&mut self, txn: Epoch) -> Result<Closed, Refusal> {
         let reply = raw::commit(&self.books, &self.entries, &self.rows, txn.get());
-        self.keep(&reply).map(Epoch::new)
+        self.keep_closed(&reply)
     }
 
-    /// Rolls back a read-write transaction (01: load): nothing that it wrote remains. Answers LCE. Refusals: 5, 2.
+    /// Rolls back a read-write transaction (01: load): nothing that it wrote remains. Answers LCE, which moves as at a
+    /// commit, and the oldest transaction that is open. Refusals: 5, 2.
     ///
     /// ```
-    /// use nizgulk::{Epoch, Refusal, Store};
+    /// use nizgulk::{Closed, Epoch, Refusal, Store};
     /// let mut store = Store::new(Epoch::FIRST)?;
-    /// let load = store.begin()?;
+    /// let (load, later) = (store.begin()?, store.begin()?);
     /// store.append(load, 0, &[10])?;
-    /// store.roll_back(load)?;
+    /// assert_eq!(store.roll_back(load)?, Closed { lce: Epoch::new(0), oldest: Some(later) });
     /// assert_eq!(store.commit(load), Err(Refusal::NotOpen));
     /// assert_eq!(store.row_count(0), Some(0));
     /// # Ok::<(), Refusal>(())
     /// ```
-    pub fn roll_back(&mut self, txn: Epoch) -> Result<Epoch, Refusal> {
+    pub fn roll_back(&mut self, txn: Epoch) -> Result<Closed, Refusal> {
         let reply = raw::roll_back(&self.books, &mut self.entries, &mut self.rows, txn.get());
-        self.keep(&reply).map(Epoch::new)
+        self.keep_closed(&reply)
     }
 
     /// Begins a read-only transaction (01: opens a page), which is named by the ticket that is answered: at an epoch,

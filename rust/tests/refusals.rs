@@ -168,7 +168,7 @@ fn entries_full_is_9() {
 #[test]
 fn blocked_is_10() {
     let (mut store, load, page) = used();
-    let lce = store.commit(load).unwrap();
+    let lce = store.commit(load).unwrap().lce;
     refused(10, &mut store, |store| store.advance_lse(lce));
     assert_eq!(store.end_ro(page), Ok(0));
     assert_eq!(store.advance_lse(lce), Ok(lce));

@@ -1,7 +1,9 @@
-//! What the crate adds to the calls: the iterator over rows shown, purge's part, a store's words, and where it may lie.
+//! What the crate adds to the calls: the load that a close names, the iterator over rows shown, purge's part, a store's
+//! words, and where it may lie.
 
+use nizgulk::calls;
 use nizgulk::limits::{ROWS_MAX, STORE_WORDS};
-use nizgulk::{Epoch, Scan, Store};
+use nizgulk::{Closed, Epoch, Scan, Store};
 
 /// A full partition: rows 0 to 511, by two loads in turn, as many at a time as these lengths say. Only the first
 /// commits.
@@ -35,6 +37,33 @@ fn one_by_one(mut scan: Scan) -> Vec<u64> {
         assert_eq!(scan.len() + 1, left);
         rows.push(row);
     }
+}
+
+#[test]
+fn a_close_names_the_oldest_open_load() {
+    let mut store = Store::new(Epoch::new(7)).unwrap();
+    let [first, second, third, fourth] = [(); 4].map(|()| store.begin().unwrap());
+    let before = store.lce();
+    assert_eq!(store.commit(second), Ok(Closed { lce: before, oldest: Some(first) }));
+    assert_eq!(store.roll_back(fourth), Ok(Closed { lce: before, oldest: Some(first) }));
+    // The second waits and is no longer open: it is not named, and LCE reaches it.
+    assert_eq!(store.roll_back(first), Ok(Closed { lce: second, oldest: Some(third) }));
+    let fifth = store.begin().unwrap();
+    assert_eq!(store.commit(third), Ok(Closed { lce: third, oldest: Some(fifth) }));
+    assert_eq!(store.commit(fifth), Ok(Closed { lce: fifth, oldest: None }));
+    let sixth = store.begin().unwrap();
+    assert_eq!(store.roll_back(sixth), Ok(Closed { lce: fifth, oldest: None }));
+}
+
+#[test]
+fn a_refused_close_names_no_load() {
+    let mut store = Store::new(Epoch::FIRST).unwrap();
+    let load = store.begin().unwrap();
+    let (books, mut entries, mut rows) = store.into_parts();
+    let refused = calls::commit(&books, &entries, &rows, load.get() + 1);
+    assert_eq!((refused.number, refused.value, refused.second), (2, 0, 0));
+    let refused = calls::roll_back(&books, &mut entries, &mut rows, load.get() + 1);
+    assert_eq!((refused.number, refused.value, refused.second), (2, 0, 0));
 }
 
 #[test]

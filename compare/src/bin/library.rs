@@ -19,11 +19,13 @@ const ROUNDS: u64 = 20_000;
 /// Calls on one store.
 const CALLS: u64 = 12;
 
-/// How often each number was answered, and how many rows the parts had that purges answered with.
+/// How often each number was answered, how many rows the parts had that purges answered with, and how many commits and
+/// rollbacks named a load.
 #[derive(Default)]
 struct Tally {
     numbers: [u64; 11],
     part_rows: usize,
+    named: u64,
 }
 
 /// Runs one call on both, and says where they differ.
@@ -36,6 +38,9 @@ fn differs(one: &Call, store: &mut Store, tally: &mut Tally) -> Result<(), Strin
     let expected = numbers(&answer);
     tally.numbers[reply.number.min(10) as usize] += 1;
     tally.part_rows += reply.count;
+    if let Call::Commit { .. } | Call::Rollback { .. } = one {
+        tally.named += u64::from(reply.second > 0);
+    }
     if told(&reply) != expected {
         return Err(format!("answers {:?}, and the model {expected:?}", told(&reply)));
     }
@@ -101,15 +106,16 @@ fn main() -> ExitCode {
         println!("no call was answered {number}: the comparison is too weak");
         return ExitCode::FAILURE;
     }
-    if tally.part_rows == 0 {
-        println!("no purge answered a row: the comparison is too weak");
+    if tally.part_rows == 0 || tally.named == 0 {
+        println!("{} rows in parts, {} loads named: the comparison is too weak", tally.part_rows, tally.named);
         return ExitCode::FAILURE;
     }
     println!(
-        "library: {} calls on {rounds} stores agree; by number {:?}; {} rows in parts",
+        "library: {} calls on {rounds} stores agree; by number {:?}; {} rows in parts, {} loads named",
         rounds * CALLS,
         tally.numbers,
-        tally.part_rows
+        tally.part_rows,
+        tally.named
     );
     ExitCode::SUCCESS
 }

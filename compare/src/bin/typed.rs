@@ -11,7 +11,7 @@ use model::store::Store;
 use model::stores::{random_store, spoilt_store};
 use model::visible::Reader;
 use nizgulk::limits::BITMAP_MAX;
-use nizgulk::{Epoch, Refusal, Ticket};
+use nizgulk::{Closed, Epoch, Refusal, Ticket};
 use std::process::ExitCode;
 
 /// Rounds, if no other number is given.
@@ -22,6 +22,11 @@ const CALLS: u64 = 24;
 /// The values that a call answers, and the rows that it hands out.
 type Told = ((u64, u64), Vec<u64>);
 
+/// What a commit or rollback answers.
+fn closed(closed: Closed) -> Told {
+    ((closed.lce.get(), closed.oldest.map_or(0, Epoch::get)), Vec::new())
+}
+
 /// What `nizgulk::Store` answers.
 fn typed(one: &Call, store: &mut nizgulk::Store) -> Result<Told, Refusal> {
     let value = match one {
@@ -29,8 +34,8 @@ fn typed(one: &Call, store: &mut nizgulk::Store) -> Result<Told, Refusal> {
         Call::Begin => store.begin()?.get(),
         Call::Append { epoch, partition, rows } => store.append(Epoch::new(*epoch), *partition, rows)? as u64,
         Call::Clear { epoch, partition } => store.clear(Epoch::new(*epoch), *partition)? as u64,
-        Call::Commit { epoch } => store.commit(Epoch::new(*epoch))?.get(),
-        Call::Rollback { epoch } => store.roll_back(Epoch::new(*epoch))?.get(),
+        Call::Commit { epoch } => return store.commit(Epoch::new(*epoch)).map(closed),
+        Call::Rollback { epoch } => return store.roll_back(Epoch::new(*epoch)).map(closed),
         Call::Open { epoch: 0 } => store.begin_ro(None)?.get(),
         Call::Open { epoch } => store.begin_ro(Epoch::new(*epoch))?.get(),
         Call::Close { ticket } => store.end_ro(Ticket::new(*ticket))? as u64,
@@ -75,12 +80,14 @@ fn typed_of(store: &Store) -> Option<nizgulk::Store> {
     Some(nizgulk::Store::from_parts(books_of(&store.manager), entries.try_into().ok()?, rows.try_into().ok()?))
 }
 
-/// How often each number was answered, and how many rows scans and purges handed out.
+/// How often each number was answered, how many rows scans and purges handed out, and how many commits and rollbacks
+/// named a load.
 #[derive(Default)]
 struct Tally {
     numbers: [u64; 11],
     scanned: usize,
     purged: usize,
+    named: u64,
 }
 
 /// Runs one call on both, and says where they differ.
@@ -95,10 +102,11 @@ fn differs(one: &Call, proved: &mut nizgulk::Store, store: &mut Store, tally: &m
     }
     match (one, told) {
         (_, Err(number)) => tally.numbers[number.min(10) as usize] += 1,
-        (one, Ok((_, rows))) => {
+        (one, Ok(((_, second), rows))) => {
             tally.numbers[0] += 1;
             match one {
                 Call::Scan { .. } => tally.scanned += rows.len(),
+                Call::Commit { .. } | Call::Rollback { .. } => tally.named += u64::from(second > 0),
                 _ => tally.purged += rows.len(),
             }
         }
@@ -133,16 +141,14 @@ fn main() -> ExitCode {
         println!("by number {:?}: the comparison is too weak", tally.numbers);
         return ExitCode::FAILURE;
     }
-    if tally.scanned == 0 || tally.purged == 0 {
-        println!("{} rows scanned, {} purged: the comparison is too weak", tally.scanned, tally.purged);
+    let Tally { numbers, scanned, purged, named } = tally;
+    if scanned == 0 || purged == 0 || named == 0 {
+        println!("{scanned} rows scanned, {purged} in parts, {named} loads named: the comparison is too weak");
         return ExitCode::FAILURE;
     }
     println!(
-        "typed: {} calls agree; by number {:?}; {} rows scanned, {} in parts",
-        tally.numbers.iter().sum::<u64>(),
-        tally.numbers,
-        tally.scanned,
-        tally.purged
+        "typed: {} calls agree; by number {numbers:?}; {scanned} rows scanned, {purged} in parts, {named} loads named",
+        numbers.iter().sum::<u64>()
     );
     ExitCode::SUCCESS
 }
