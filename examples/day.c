@@ -62,7 +62,11 @@ static void append(uint64_t txn, uint64_t p, const uint64_t *batch, size_t count
 static void commit(uint64_t txn)
 {
     reply = nizgulk_commit(reply.state, LENT, txn);
-    printf("  load %d is committed; committed up to %d\n", (int)txn, (int)accepted("a load commits"));
+    printf("  load %d is committed; committed up to %d", (int)txn, (int)accepted("a load commits"));
+    if (reply.value < txn) {
+        printf(", as load %d is open", (int)reply.second);
+    }
+    printf("\n");
 }
 
 static uint64_t open_page(void)
@@ -159,8 +163,10 @@ int main(void)
     due("a load sees its own rows, and not those of one that was open when it began", are(&now, more_brass, 1));
     commit(second);
     due("a commit waits for the older load", reply.value == 0);
+    due("and names it", reply.second == first);
     commit(first);
     due("then both are committed", reply.value == second);
+    due("and no load is open", reply.second == 0);
 
     printf("Orders are planned\n");
     order = open_page();
@@ -180,9 +186,11 @@ int main(void)
     append(fourth, BRASS, mistyped, COUNT(mistyped));
     append(fourth, BRONZE, mistyped, COUNT(mistyped));
     commit(third);
+    due("a later load does not hold a commit back", reply.value == third && reply.second == fourth);
     reply = nizgulk_roll_back(reply.state, LENT, fourth);
     printf("  load %d is rolled back; committed up to %d\n", (int)fourth, (int)accepted("a roll back"));
     due("the clearing is committed", reply.value == third);
+    due("and no load is open", reply.second == 0);
     reply = nizgulk_append(reply.state, LENT, mistyped, COUNT(mistyped), fourth, BRASS);
     due("a load that is closed brings nothing more", reply.number == NIZGULK_NOT_OPEN);
 

@@ -156,8 +156,9 @@ struct nizgulk_entry {
 
 /* ---- Replies. */
 
-/* The books after the call, the number and the values. `second` is 0. `from` and `count` are the part that a purge
- * answers with, `count` rows from rows[from] on, and 0 in the reply to any other call. */
+/* The books after the call, the number and the values. `second` is what a commit or a roll back answers beside LCE, and
+ * 0 in the reply to any other call. `from` and `count` are the part that a purge answers with, `count` rows from
+ * rows[from] on, and 0 in the reply to any other call. */
 struct nizgulk_reply {
     struct nizgulk_state state;
     uint64_t number;
@@ -210,7 +211,8 @@ struct nizgulk_reply nizgulk_clear(struct nizgulk_state state, struct nizgulk_en
 /* Transaction `txn` commits; LCE becomes the greatest committed epoch that has no open load of smaller epoch. Above
  * LCE the transaction waits (01) and keeps its place. Writes nothing lent.
  * Refusals, in this order: 5, 2.
- * Answers LCE in `value`. */
+ * Answers LCE in `value`, and in `second` the epoch of the oldest transaction that is open then, or 0. Where LCE is
+ * below `txn`, that one holds it back. */
 struct nizgulk_reply nizgulk_commit(struct nizgulk_state state, const struct nizgulk_entry *entries, size_t entries_len,
                                     const uint64_t *rows, size_t rows_len, uint64_t txn);
 
@@ -218,7 +220,7 @@ struct nizgulk_reply nizgulk_commit(struct nizgulk_state state, const struct niz
  * partition that has an entry of it, in rising order, is written anew to the spare area, and its old area is the
  * spare one from then on. Words beyond those written stay, and other partitions are not written.
  * Refusals, in this order: 5, 2.
- * Answers LCE in `value`. */
+ * Answers LCE in `value`, and in `second` the epoch of the oldest transaction that is open then, or 0. */
 struct nizgulk_reply nizgulk_roll_back(struct nizgulk_state state, struct nizgulk_entry *entries, size_t entries_len,
                                        uint64_t *rows, size_t rows_len, uint64_t txn);
 

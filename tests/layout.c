@@ -95,17 +95,23 @@ static void is(const char *what, uint64_t got, uint64_t due)
     }
 }
 
-/* The reply's number and value; a refusal has left the books. */
-static void told(const char *what, uint64_t number, uint64_t value)
+/* The reply's number and values; a refusal has left the books. */
+static void told_both(const char *what, uint64_t number, uint64_t value, uint64_t second)
 {
     is(what, reply.number, number);
     is(what, reply.value, value);
-    is(what, reply.second, 0);
+    is(what, reply.second, second);
     if (number != NIZGULK_ACCEPTED) {
         is(what, memcmp(&reply.state, &before, sizeof before) != 0, 0);
         is(what, reply.from + reply.count, 0);
     }
     before = reply.state;
+}
+
+/* The same where no second value is due. */
+static void told(const char *what, uint64_t number, uint64_t value)
+{
+    told_both(what, number, value, 0);
 }
 
 /* All words that differ, at most a few of them named. */
@@ -215,7 +221,7 @@ static void history(void)
     }
     write_to(6, 1050, 0);
     reply = nizgulk_commit(reply.state, LENT, 1041);
-    told("commit above LCE", NIZGULK_ACCEPTED, 1035);
+    told_both("commit above LCE", NIZGULK_ACCEPTED, 1035, 1036);
     want.writers.at[5].waiting = 1;
     want.writers.at[5].deps = 0;
     memset(&want.deps[NIZGULK_DEPS_MAX * 5], 0, 5 * sizeof *want.deps);
@@ -327,6 +333,30 @@ static void limits(void)
     told("a page more", NIZGULK_EXHAUSTED, 0);
 }
 
+/* Commits and roll backs name the oldest load that is open then, or none. */
+static void closes(void)
+{
+    uint64_t txn;
+    reply = nizgulk_create(reply.state, LENT, 2001);
+    told("making new", NIZGULK_ACCEPTED, 0);
+    for (txn = 2001; txn <= 2004; txn++) {
+        reply = nizgulk_begin(reply.state, LENT);
+        told("begin", NIZGULK_ACCEPTED, txn);
+    }
+    reply = nizgulk_commit(reply.state, LENT, 2002);
+    told_both("a commit that is held back", NIZGULK_ACCEPTED, 2000, 2001);
+    reply = nizgulk_commit(reply.state, LENT, 2002);
+    told_both("a commit that is refused", NIZGULK_NOT_OPEN, 0, 0);
+    reply = nizgulk_roll_back(reply.state, LENT, 2002);
+    told_both("a roll back that is refused", NIZGULK_NOT_OPEN, 0, 0);
+    reply = nizgulk_roll_back(reply.state, LENT, 2001);
+    told_both("a roll back that lets LCE go on", NIZGULK_ACCEPTED, 2002, 2003);
+    reply = nizgulk_commit(reply.state, LENT, 2003);
+    told_both("a commit with a later load open", NIZGULK_ACCEPTED, 2003, 2004);
+    reply = nizgulk_roll_back(reply.state, LENT, 2004);
+    told_both("a roll back of the last load", NIZGULK_ACCEPTED, 2003, 0);
+}
+
 static void bytes_of(const char *what, size_t bytes)
 {
     printf("bytes of %-24s %6lu\n", what, (unsigned long)bytes);
@@ -343,6 +373,7 @@ int main(void)
     every_word_is_read();
     scans();
     limits();
+    closes();
     bytes_of("the books", sizeof want);
     bytes_of("the entries", sizeof entries - sizeof *entries);
     bytes_of("the rows", sizeof rows - sizeof *rows);
