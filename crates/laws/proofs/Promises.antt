@@ -1,10 +1,11 @@
--- What demand 3 comes to for the readers of a store, over every history. Statements: rules/specs/Promises.antt.
+-- What a history leaves, and what demand 3 comes to for the readers of a store. Statements: rules/specs/Histories.antt,
+-- rules/specs/Promises.antt.
 -- In order: a history is followed by its ledger; it is sound; LCE; the load that holds it back; a page; a load; a load
 -- lands whole; making new.
 -- Elsewhere: demand 3 itself (History.antt), single calls (Laws/Stays.antt).
 -- Assumes nothing.
 use mathlib.Core.Path.{_≡_, refl, sym, _∙_, ap}
-use mathlib.Core.Bool.{Bool, true, false, _&&_}
+use mathlib.Core.Bool.{Bool, true, false}
 use mathlib.Core.List.{List, [], _∷_, _++_, append-nil}
 use Prim.Native.Nat.{ℕ, _≤_, _<_}
 use lib.ListN.{length}
@@ -22,20 +23,20 @@ use Rattle.rules.specs.Answers.{replyOf, secondValue, accepted}
 use Rattle.rules.specs.WellFormed.{wellFormed}
 use Rattle.rules.specs.Calls.{closeAnswer, scanAnswer}
 use Rattle.rules.specs.Step.{Call, create, rollback, commit, step, run}
-use Rattle.rules.specs.Ledger.{Line, row, delete, Ledger, oldest, heard, linesAt, concealed, showsIn, shows}
+use Rattle.rules.specs.Ledger.{Line, row, delete, Ledger, heard, linesAt, concealed, showsIn, shows}
 use Rattle.rules.specs.Claim.{eventOf, history, ledgerOf, isOpenIn, shownBy, wordsScanned}
-use Rattle.rules.specs.Promises.{Made, storeAfter, ledgerAfter, HistorySound, HistoryLce, spares, rowsOf, rowsBy}
-use Rattle.rules.specs.Promises.{ledgerNext, NamesOldest, HistoryNamesOldest, HistoryNamesHolder}
-use Rattle.rules.specs.Promises.{HistoryPageUnchanged, HistoryLoadUnchanged, ledgerSees, ledgerApplies}
-use Rattle.rules.specs.Promises.{unhiddenIn, unhidden, shownLines, marked, wordsIn, HistoryLandsWhole}
+use Rattle.rules.specs.Histories.{Made, storeAfter, ledgerAfter, HistorySound, HistoryLce, oldest, ledgerNext}
+use Rattle.rules.specs.Histories.{NamesOldest, HistoryNamesOldest, HistoryNamesHolder}
+use Rattle.rules.specs.Promises.{spares, rowsOf, rowsBy, HistoryPageUnchanged, HistoryLoadUnchanged, ledgerSees}
+use Rattle.rules.specs.Promises.{ledgerApplies, unhiddenIn, unhidden, shownLines, marked, wordsIn, HistoryLandsWhole}
 use Rattle.rules.specs.Promises.{NewClosesAll}
 use Rattle.rules.specs.declared.Reader.{Reader}
 use Rattle.rules.specs.declared.Reader.the-variants.{Rw, Ro}
 use Rattle.laws.proofs.Laws.WellFormed.{store-ok}
 use Rattle.laws.proofs.Laws.Sound.{sound-created, sound-run, sound-answers}
 use Rattle.laws.proofs.Laws.Calls.{close-passed}
-use Rattle.laws.proofs.Laws.Oldest.{tracks-oldest, tracks-holder}
-use Rattle.laws.proofs.Laws.Tracks.{Tracks, shownBy-tests, tracks-admits, tracks-latest}
+use Rattle.laws.proofs.Laws.Oldest.{tracks-oldest}
+use Rattle.laws.proofs.Laws.Tracks.{Tracks, shownBy-tests, tracks-admits, tracks-latest, tracks-holder}
 use Rattle.laws.proofs.Laws.Stays.{rowsOf-page, Stays, stays-still, stays-twice, stays-step}
 use Rattle.laws.proofs.Laws.Follows.{Follows}
 use Rattle.laws.proofs.History.{follows-step, follows-run, follows-agrees, follows-made}

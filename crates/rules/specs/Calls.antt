@@ -4,7 +4,7 @@
 -- only the manager as one; append, clear, purge; scan.
 -- Laws: laws/proofs/Laws/Calls.antt.
 -- Assumes nothing.
-use mathlib.Core.Bool.{Bool, false, not, _&&_, cond}
+use mathlib.Core.Bool.{Bool, not, _&&_, cond}
 use mathlib.Core.List.{List}
 use Prim.Native.Nat.{ℕ, suc, _+_, _-_}
 use lib.ListN.{length}
@@ -62,7 +62,7 @@ beginAnswer sound m =
     (refuse TxnsFull (leb writersMax (m .writers .count))
     (Begun (m .clock .ec))))
 
--- commit and roll back: next is the manager once the transaction is closed; 02 (i): who is the oldest open one then
+-- commit and roll back: next is the manager once the transaction is closed, and the oldest is one that is open then
 unfoldable pub closeAnswer : ℕ → Bool → Manager → Manager → Answer
 closeAnswer i sound m next =
     refuse Unsound (not sound)

@@ -7,7 +7,7 @@ use mathlib.Core.List.{List, [], _∷_, _++_, map, foldr}
 use Prim.Native.Nat.{ℕ, _-_, max}
 use lib.ListN.{getD, set, replicate}
 use lib.Dec.{ltb, leb, eqb}
-use Rattle.lists.specs.Lists.{keepIf, anyOf, firstOf, elem, leastOf}
+use Rattle.lists.specs.Lists.{keepIf, anyOf, firstOf, elem}
 
 -- a row with its transaction's mark, or a delete (01: clearing) with its mark
 pub data Line : Type 0 where
@@ -77,10 +77,6 @@ withAdded p ls g = withLines (set (g .lines) p (linesAt p g ++ ls)) g
 -- the greatest committed epoch that has no open transaction of smaller epoch, or s − 1
 abbrev pub latest : Ledger → ℕ
 latest g = foldr max (g .start - 1) (keepIf (λ c. not (anyOf (λ w. ltb (w .name) c) (g .writers))) (g .committed))
-
--- the least epoch of an open transaction, or 0
-abbrev pub oldest : Ledger → ℕ
-oldest g = leastOf (map (λ w. w .name) (g .writers))
 
 -- itself, and those of smaller epoch committed before it began
 abbrev pub withBegun : ℕ → Ledger → Ledger

@@ -19,4 +19,5 @@ pub mod Calls
 pub mod Step
 pub mod Ledger
 pub mod Claim
+pub mod Histories
 pub mod Promises

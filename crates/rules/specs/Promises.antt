@@ -1,7 +1,5 @@
--- What demand 3 comes to for those who read pages and loads, over every history: a list of calls on a store that an
--- accepted making new left. 01 "The ledger of demand 3"; "The books" (LCE); "Refusals" (5); 02 (i).
--- In order: a history; it is sound; LCE; the load that holds LCE back; the calls that close a reader, and the rows that
--- it adds; a page; a load; a load lands whole; making new closes all. Proofs: laws/proofs/Promises.antt.
+-- What demand 3 comes to for readers, over every history (Histories.antt). 01 "The ledger of demand 3".
+-- In order: what closes a reader; its rows; a page; a load; landing whole; making new. Proofs: laws' Promises.antt.
 -- Assumes nothing.
 use mathlib.Core.Path.{_≡_}
 use mathlib.Core.Bool.{Bool, true, false, not, _&&_, cond}
@@ -12,75 +10,19 @@ use lib.Dec.{eqb}
 use Rattle.lists.specs.Lists.{keepIf, allOf, elem}
 use Rattle.rules.specs.Limits.{partitionsMax, lastEpoch}
 use Rattle.rules.specs.Bitmap.{bytesFor}
-use Rattle.rules.specs.Store.{Store, managerOf, partitionAt}
-use Rattle.rules.specs.Answers.{yields, replyOf, secondValue, accepted}
-use Rattle.rules.specs.WellFormed.{wellFormed}
+use Rattle.rules.specs.Store.{Store, partitionAt}
+use Rattle.rules.specs.Answers.{yields, accepted}
 use Rattle.rules.specs.Calls.{within}
-use Rattle.rules.specs.Step.{Call, create, manage, append, clear, rollback, scan, purge, commit, step, run}
+use Rattle.rules.specs.Step.{Call, create, manage, append, clear, rollback, scan, purge, step, run}
 use Rattle.rules.specs.Ledger.{Event, newAt, began, added, deleted, committed, aborted, opened, closed, other}
-use Rattle.rules.specs.Ledger.{Line, row, delete, Ledger, newLedger, latest, oldest, linesAt, concealed}
-use Rattle.rules.specs.Ledger.{marksOf}
+use Rattle.rules.specs.Ledger.{Line, row, delete, Ledger, linesAt, concealed, marksOf}
 use Rattle.rules.specs.Claim.{eventOf, history, ledgerOf, isOpenIn, shownBy, wordsScanned}
+use Rattle.rules.specs.Histories.{Made, storeAfter, ledgerAfter}
 use Rattle.rules.specs.declared.Reader.{Reader}
 use Rattle.rules.specs.declared.Reader.the-variants.{Rw, Ro}
 use Rattle.rules.specs.declared.Answer.{Answer}
 use Rattle.rules.specs.declared.Answer.the-variants.{Refused}
 use Rattle.rules.specs.declared.Refusal.the-variants.{NotOpen}
-
--- ---- a history: making new at s is accepted, and a list of calls follows
-
-abbrev pub Made : ℕ → Store → Type 0
-Made s st = accepted (step (create s) st .answer) ≡ true
-
-abbrev pub storeAfter : ℕ → Store → List Call → Store
-storeAfter s st calls = run calls (step (create s) st .store)
-
-abbrev pub ledgerAfter : ℕ → Store → List Call → Ledger
-ledgerAfter s st calls = ledgerOf (history calls (step (create s) st .store)) (newLedger s)
-
--- the store is sound, and no call that follows answers 5
-abbrev pub HistorySound : Type 0
-HistorySound =
-    (s : ℕ) (st : Store) → Made s st → (calls : List Call) → let end = storeAfter s st calls in
-    (wellFormed end ≡ true) × ((c : Call) → replyOf (step c end .answer) .number ≡ 5 → ⊥)
-
--- LCE is the greatest committed epoch that has no open load of smaller epoch
-abbrev pub HistoryLce : Type 0
-HistoryLce =
-    (s : ℕ) (st : Store) → Made s st → (calls : List Call)
-    → managerOf (storeAfter s st calls) .clock .lce ≡ latest (ledgerAfter s st calls)
-
--- ---- the load that holds LCE back (02 (i)): commit and roll back name the oldest open load
-
--- after one more call
-abbrev pub ledgerNext : Call → Store → Ledger → Ledger
-ledgerNext c at g = ledgerOf (history (c ∷ []) at) g
-
-abbrev pub NamesOldest : Call → Store → Ledger → Type 0
-NamesOldest c at g =
-    accepted (step c at .answer) ≡ true
-    → secondValue (replyOf (step c at .answer)) ≡ oldest (ledgerNext c at g)
-
-abbrev pub HistoryNamesOldest : Type 0
-HistoryNamesOldest =
-    (s : ℕ) (st : Store) → Made s st → (calls : List Call) (i : ℕ)
-    → let g = ledgerAfter s st calls in let at = storeAfter s st calls in
-      NamesOldest (commit i) at g × NamesOldest (rollback i) at g
-
--- load h is open in the ledger, above LCE and below i
-pub record HoldsBack (h i lce : ℕ) (g : Ledger) : Type 0 where
-  pub opened : isOpenIn (Rw h) g ≡ true
-  pub above : lce < h
-  pub below : h < i
-
--- a commit of i that leaves LCE below i names a load that holds it back
-abbrev pub HistoryNamesHolder : Type 0
-HistoryNamesHolder =
-    (s : ℕ) (st : Store) → Made s st → (calls : List Call) (i : ℕ)
-    → let g = ledgerAfter s st calls in let at = storeAfter s st calls in
-      let out = step (commit i) at in let lce = managerOf (out .store) .clock .lce in
-      accepted (out .answer) ≡ true → lce < i
-    → HoldsBack (secondValue (replyOf (out .answer))) i lce (ledgerNext (commit i) at g)
 
 -- ---- the calls that close a reader, and the rows that it adds
 

@@ -15,7 +15,7 @@ ghost use Rattle.lists.specs.Lists.{over, pad};
 ghost use Rattle.rules.specs.Limits.{writersMax, depsMax, depsAll};
 ghost use Rattle.rules.specs.Manager.{noRw, view};
 ghost use Rattle.rules.specs.Close.{waitingTxn};
-ghost use Rattle.txn.specs.Records.{cut, writersWith, tableWith, viewed, Tidy};
+ghost use Rattle.txn.specs.Records.{cut, tableWith, viewed, Tidy};
 ghost use Rattle.txn_close.specs.Close.{lead, reachOf, booksWith, closedTxns, settledBy};
 
 // What a close changes beside the table of deps, which is lent (01: the books, without the lots).

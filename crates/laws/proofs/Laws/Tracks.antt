@@ -1,14 +1,15 @@
 -- The manager beside the ledger of demand 3: who is open, and who sees what.
--- In order: who is alive, what the ledger shows a reader by, Tracks, the snapshots with one more, who is open, LCE,
--- what a reader sees, what comes or goes above LCE.
--- Definitions: rules/specs/Manager.antt, rules/specs/Ledger.antt, rules/specs/Claim.antt, rules/specs/Promises.antt.
+-- In order: who is alive, what the ledger shows a reader by, Tracks, the snapshots with one more, who is open, LCE and
+-- who holds it back, what a reader sees, what comes or goes above LCE.
+-- Definitions: rules/specs/Manager.antt, rules/specs/Ledger.antt, rules/specs/Claim.antt, rules/specs/Histories.antt,
+-- rules/specs/Promises.antt.
 -- Elsewhere: that each call keeps it (Laws/TracksBegin.antt, Laws/TracksClose.antt,
 -- Laws/TracksReadOnly.antt).
 -- Assumes nothing.
 use mathlib.Core.Path.{_≡_, refl, sym, ap, _∙_}
 use mathlib.Core.Bool.{Bool, true, false, not, _&&_, _||_, cond}
 use mathlib.Core.Logic.{_⊎_, inl, inr}
-use mathlib.Core.List.{List, _∷_, List·Memᴰ as In, Memᴰ·of-map}
+use mathlib.Core.List.{List, _∷_, List·Memᴰ as In, Memᴰ·map, Memᴰ·of-map}
 use Prim.Native.Nat.{ℕ, _-_, _≤_, _<_}
 use native.Mathlib.Omega.{arith}
 use lib.Dec.{ltb, leb, eqb}
@@ -17,7 +18,7 @@ use Rattle.lists.specs.Lists.{keepIf, anyOf, firstOf, elem}
 use Rattle.lists.proofs.Laws.Bools.{split, and-left, and-right, and-assoc, or-right, or-cases}
 use Rattle.lists.proofs.Laws.Filter.{any-in, any-of, none-in, none-of, in-keepIf, keepIf-in, first-in}
 use Rattle.lists.proofs.Laws.Filter.{in-elem, elem-in}
-use Rattle.lists.proofs.Laws.Order.{foldr-max-base, foldr-max-in, foldr-max-below}
+use Rattle.lists.proofs.Laws.Order.{foldr-max-base, foldr-max-in, foldr-max-below, leastOf-in, leastOf-member}
 use Rattle.lists.proofs.Laws.Tests.{no-proof, and-mask}
 use Rattle.rules.specs.Manager.{Writer, noWriter, noRo, isOpen, opens, hasOpen, depsAt, hasTicket}
 use Rattle.rules.specs.Manager.{writersOf}
@@ -27,6 +28,7 @@ use Rattle.rules.specs.Calls.{isReader, seesOf, appliesOf}
 use Rattle.rules.specs.Ledger.{Snapshot, Ledger, noSnapshot, named, hasOpenRw, latest, marksOf, linesAt}
 use Rattle.rules.specs.Ledger.{shows}
 use Rattle.rules.specs.Ledger.{writerShows, readerShows}
+use Rattle.rules.specs.Histories.{oldest, HoldsBack}
 use Rattle.rules.specs.Promises.{ledgerSees, ledgerApplies}
 use Rattle.rules.specs.Claim.{isOpenIn, shownBy}
 use Rattle.rules.specs.WellFormed.{managerOk}
@@ -106,7 +108,7 @@ pub tracks-writer : {m : Manager} {g : Ledger} → Tracks m g → (i : ℕ) → 
 tracks-writer {m} {g} T i o = let r = hasOpen-range m (T .ok) i o in let k = manager-facts m (T .ok) .clock in
     (or-right (elem i (g .committed)) _ (T .writers .same i ∙ o), omega arith, r .1)
 
--- ---- LCE
+-- ---- LCE, and who holds it back
 
 module _ {m : Manager} {g : Ledger} (T : Tracks m g) where
   -- an open transaction of the ledger lies below c
@@ -117,7 +119,7 @@ module _ {m : Manager} {g : Ledger} (T : Tracks m g) where
   clear c = not (anyOf (λ w. ltb (w .name) c) (g .writers))
 
   -- a committed epoch above LCE waits, behind an open one
-  pub latest-below : (c : ℕ) → elem c (g .committed) ≡ true → clear c ≡ true → c ≤ m .clock .lce
+  latest-below : (c : ℕ) → elem c (g .committed) ≡ true → clear c ≡ true → c ≤ m .clock .lce
   latest-below c d n = or-cases (leb c (m .clock .lce)) (elem c (epochs (writersOf m))) (T .writers .done-known c d)
     (λ t. leb-true c (m .clock .lce) t)
     (λ h t. let w = Memᴰ·of-map (λ (x : Writer). x .epoch) (writersOf m) (elem-in c (epochs (writersOf m)) t) in
@@ -154,6 +156,21 @@ module _ {m : Manager} {g : Ledger} (T : Tracks m g) where
       lower : (m .clock .lce ≡ g .start - 1) ⊎ (elem (m .clock .lce) (g .committed) ≡ true) → m .clock .lce ≤ latest g
       lower (inl e) = let b = foldr-max-base (g .start - 1) (keepIf clear (g .committed)) in omega arith
       lower (inr e) = foldr-max-in (g .start - 1) (in-keepIf clear (elem-in (m .clock .lce) (g .committed) e) lce-clear)
+
+  -- what is committed above LCE waits, behind the oldest open one
+  pub tracks-holder : (c : ℕ) → elem c (g .committed) ≡ true → m .clock .lce < c
+      → HoldsBack (oldest g) c (m .clock .lce) g
+  tracks-holder c d h =
+      let u = any-in (under c) (g .writers) behind in let b = ltb-true (u .it .name) c (u .passes) in
+      let at = Memᴰ·map (λ (w : Snapshot). w .name) (u .at) in let low = leastOf-in at in
+      let w = Memᴰ·of-map (λ (w : Snapshot). w .name) (g .writers) (leastOf-member at) in
+      let o = any-of (named (oldest g)) (w .1) (eq-eqb (w .0 .name) (oldest g) (w .2)) in
+      let r = hasOpen-range m (T .ok) (oldest g) (sym (T .writers .same (oldest g)) ∙ o) in
+      record { opened = o; above = r .0; below = omega arith }
+    where
+      behind : anyOf (under c) (g .writers) ≡ true
+      behind = split (anyOf (under c) (g .writers)) (λ t. t)
+        (λ f. let l = latest-below c d (rw f) in absurd (omega arith))
 
 -- ---- what a reader sees
 

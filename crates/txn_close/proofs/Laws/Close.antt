@@ -2,7 +2,7 @@
 -- Definitions: specs/Close.antt; rules/specs/Close.antt.
 -- In order: one transaction closed, settled, the transactions of a manager, the books.
 -- Assumes nothing.
-use mathlib.Core.Path.{_≡_, refl, sym, ap, _∙_}
+use mathlib.Core.Path.{_≡_, refl, sym, _∙_}
 use mathlib.Core.Bool.{Bool, true, false, _&&_, cond}
 use mathlib.Core.List.{List}
 use Prim.Native.Nat.{ℕ, suc, _≤_}

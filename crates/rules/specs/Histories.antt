@@ -1,0 +1,75 @@
+-- What a history leaves: a list of calls on a store that an accepted making new left. 01 "The books" (LCE), "Refusals"
+-- (5); 02 (i).
+-- In order: a history; it is sound; LCE; the load that holds LCE back. Proofs: laws/proofs/Promises.antt.
+-- Assumes nothing.
+use mathlib.Core.Path.{_≡_}
+use mathlib.Core.Bool.{true}
+use mathlib.Core.List.{List, [], _∷_, map}
+use Prim.Native.Nat.{ℕ, _<_}
+use Rattle.lists.specs.Lists.{leastOf}
+use Rattle.rules.specs.Store.{Store, managerOf}
+use Rattle.rules.specs.Answers.{replyOf, secondValue, accepted}
+use Rattle.rules.specs.WellFormed.{wellFormed}
+use Rattle.rules.specs.Step.{Call, create, rollback, commit, step, run}
+use Rattle.rules.specs.Ledger.{Ledger, newLedger, latest}
+use Rattle.rules.specs.Claim.{history, ledgerOf, isOpenIn}
+use Rattle.rules.specs.declared.Reader.the-variants.{Rw}
+
+-- ---- a history: making new at s is accepted, and a list of calls follows
+
+abbrev pub Made : ℕ → Store → Type 0
+Made s st = accepted (step (create s) st .answer) ≡ true
+
+abbrev pub storeAfter : ℕ → Store → List Call → Store
+storeAfter s st calls = run calls (step (create s) st .store)
+
+abbrev pub ledgerAfter : ℕ → Store → List Call → Ledger
+ledgerAfter s st calls = ledgerOf (history calls (step (create s) st .store)) (newLedger s)
+
+-- the store is sound, and no call that follows answers 5
+abbrev pub HistorySound : Type 0
+HistorySound =
+    (s : ℕ) (st : Store) → Made s st → (calls : List Call) → let end = storeAfter s st calls in
+    (wellFormed end ≡ true) × ((c : Call) → replyOf (step c end .answer) .number ≡ 5 → ⊥)
+
+-- LCE is the greatest committed epoch that has no open load of smaller epoch
+abbrev pub HistoryLce : Type 0
+HistoryLce =
+    (s : ℕ) (st : Store) → Made s st → (calls : List Call)
+    → managerOf (storeAfter s st calls) .clock .lce ≡ latest (ledgerAfter s st calls)
+
+-- ---- the load that holds LCE back (02 (i)): commit and roll back name the oldest open load
+
+-- the least epoch of an open load, or 0
+abbrev pub oldest : Ledger → ℕ
+oldest g = leastOf (map (λ w. w .name) (g .writers))
+
+-- after one more call
+abbrev pub ledgerNext : Call → Store → Ledger → Ledger
+ledgerNext c at g = ledgerOf (history (c ∷ []) at) g
+
+abbrev pub NamesOldest : Call → Store → Ledger → Type 0
+NamesOldest c at g =
+    accepted (step c at .answer) ≡ true
+    → secondValue (replyOf (step c at .answer)) ≡ oldest (ledgerNext c at g)
+
+abbrev pub HistoryNamesOldest : Type 0
+HistoryNamesOldest =
+    (s : ℕ) (st : Store) → Made s st → (calls : List Call) (i : ℕ)
+    → let g = ledgerAfter s st calls in let at = storeAfter s st calls in
+      NamesOldest (commit i) at g × NamesOldest (rollback i) at g
+
+-- load h is open in the ledger, above LCE and below i
+pub record HoldsBack (h i lce : ℕ) (g : Ledger) : Type 0 where
+  pub opened : isOpenIn (Rw h) g ≡ true
+  pub above : lce < h
+  pub below : h < i
+
+-- a commit of i that leaves LCE below i names a load that holds it back
+abbrev pub HistoryNamesHolder : Type 0
+HistoryNamesHolder =
+    (s : ℕ) (st : Store) → Made s st → (calls : List Call) (i : ℕ)
+    → let g = ledgerAfter s st calls in let at = storeAfter s st calls in
+      let out = step (commit i) at in let lce = managerOf (out .store) .clock .lce in
+      accepted (out .answer) ≡ true → lce < i
+    → HoldsBack (secondValue (replyOf (out .answer))) i lce (ledgerNext (commit i) at g)
