@@ -26,10 +26,9 @@ use Rattle.rules.specs.Step.{Call, create, rollback, commit, step, run}
 use Rattle.rules.specs.Ledger.{Line, row, delete, Ledger, heard, linesAt, concealed, showsIn, shows}
 use Rattle.rules.specs.Claim.{eventOf, history, ledgerOf, isOpenIn, shownBy, wordsScanned}
 use Rattle.rules.specs.Histories.{Made, storeAfter, ledgerAfter, HistorySound, HistoryLce, oldest, ledgerNext}
-use Rattle.rules.specs.Histories.{NamesOldest, HistoryNamesOldest, HistoryNamesHolder}
+use Rattle.rules.specs.Histories.{NewClosesAll, NamesOldest, HistoryNamesOldest, HistoryNamesHolder}
 use Rattle.rules.specs.Promises.{spares, rowsOf, rowsBy, HistoryPageUnchanged, HistoryLoadUnchanged, ledgerSees}
 use Rattle.rules.specs.Promises.{ledgerApplies, unhiddenIn, unhidden, shownLines, marked, wordsIn, HistoryLandsWhole}
-use Rattle.rules.specs.Promises.{NewClosesAll}
 use Rattle.rules.specs.declared.Reader.{Reader}
 use Rattle.rules.specs.declared.Reader.the-variants.{Rw, Ro}
 use Rattle.laws.proofs.Laws.WellFormed.{store-ok}

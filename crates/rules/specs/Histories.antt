@@ -1,19 +1,24 @@
 -- What a history leaves: a list of calls on a store that an accepted making new left. 01 "The books" (LCE), "Refusals"
 -- (5); 02 (i).
--- In order: a history; it is sound; LCE; the load that holds LCE back. Proofs: laws/proofs/Promises.antt.
+-- In order: a history; it is sound; making new closes all; LCE; the load that holds LCE back. Proofs:
+-- laws/proofs/Promises.antt.
 -- Assumes nothing.
 use mathlib.Core.Path.{_≡_}
 use mathlib.Core.Bool.{true}
 use mathlib.Core.List.{List, [], _∷_, map}
 use Prim.Native.Nat.{ℕ, _<_}
 use Rattle.lists.specs.Lists.{leastOf}
+use Rattle.rules.specs.Limits.{partitionsMax}
 use Rattle.rules.specs.Store.{Store, managerOf}
 use Rattle.rules.specs.Answers.{replyOf, secondValue, accepted}
 use Rattle.rules.specs.WellFormed.{wellFormed}
-use Rattle.rules.specs.Step.{Call, create, rollback, commit, step, run}
+use Rattle.rules.specs.Step.{Call, create, rollback, scan, commit, step, run}
 use Rattle.rules.specs.Ledger.{Ledger, newLedger, latest}
 use Rattle.rules.specs.Claim.{history, ledgerOf, isOpenIn}
+use Rattle.rules.specs.declared.Reader.{Reader}
 use Rattle.rules.specs.declared.Reader.the-variants.{Rw}
+use Rattle.rules.specs.declared.Answer.the-variants.{Refused}
+use Rattle.rules.specs.declared.Refusal.the-variants.{NotOpen}
 
 -- ---- a history: making new at s is accepted, and a list of calls follows
 
@@ -31,6 +36,12 @@ abbrev pub HistorySound : Type 0
 HistorySound =
     (s : ℕ) (st : Store) → Made s st → (calls : List Call) → let end = storeAfter s st calls in
     (wellFormed end ≡ true) × ((c : Call) → replyOf (step c end .answer) .number ≡ 5 → ⊥)
+
+-- making new closes all: no page and no load is open on the store that it leaves
+abbrev pub NewClosesAll : Type 0
+NewClosesAll =
+    (s : ℕ) (st : Store) → Made s st → (r : Reader) (p : ℕ) → p < partitionsMax → (lent : List ℕ)
+    → step (scan r p lent) (step (create s) st .store) .answer ≡ Refused NotOpen
 
 -- LCE is the greatest committed epoch that has no open load of smaller epoch
 abbrev pub HistoryLce : Type 0

@@ -1,5 +1,6 @@
 -- What demand 3 comes to for readers, over every history (Histories.antt). 01 "The ledger of demand 3".
--- In order: what closes a reader; its rows; a page; a load; landing whole; making new. Proofs: laws' Promises.antt.
+-- In order: the calls that close a reader, and the rows that it adds; a page; a load; a load lands whole.
+-- Proofs: laws/proofs/Promises.antt.
 -- Assumes nothing.
 use mathlib.Core.Path.{_≡_}
 use mathlib.Core.Bool.{Bool, true, false, not, _&&_, cond}
@@ -21,8 +22,6 @@ use Rattle.rules.specs.Histories.{Made, storeAfter, ledgerAfter}
 use Rattle.rules.specs.declared.Reader.{Reader}
 use Rattle.rules.specs.declared.Reader.the-variants.{Rw, Ro}
 use Rattle.rules.specs.declared.Answer.{Answer}
-use Rattle.rules.specs.declared.Answer.the-variants.{Refused}
-use Rattle.rules.specs.declared.Refusal.the-variants.{NotOpen}
 
 -- ---- the calls that close a reader, and the rows that it adds
 
@@ -141,10 +140,3 @@ abbrev pub HistoryLandsWhole : Type 0
 HistoryLandsWhole =
     (s : ℕ) (st : Store) → Made s st → (calls : List Call) (r : Reader)
     → isOpenIn r (ledgerAfter s st calls) ≡ true → LandsWhole r (ledgerAfter s st calls) (storeAfter s st calls)
-
--- ---- making new closes all: no page and no load is open on the store that it leaves
-
-abbrev pub NewClosesAll : Type 0
-NewClosesAll =
-    (s : ℕ) (st : Store) → Made s st → (r : Reader) (p : ℕ) → p < partitionsMax → (lent : List ℕ)
-    → step (scan r p lent) (step (create s) st .store) .answer ≡ Refused NotOpen
