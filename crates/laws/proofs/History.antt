@@ -10,6 +10,7 @@ use Prim.Native.Nat.{ℕ, _≤_, _<_}
 use native.Mathlib.Omega.{arith}
 use lib.ListN.{length}
 use borrow.Author.Tests.{eqb-true, eq-eqb}
+use Rattle.lists.specs.Lists.{elem}
 use Rattle.lists.proofs.Laws.Bools.{split}
 use Rattle.rules.specs.Limits.{partitionsMax}
 use Rattle.rules.specs.Close.{rolledBackManager}
@@ -30,8 +31,8 @@ use Rattle.laws.proofs.Laws.Safe.{low-sees, low-applies}
 use Rattle.laws.proofs.Laws.Shown.{spansShow, scan-admits, scan-counts, scan-spans}
 use Rattle.laws.proofs.Laws.Calls.{create-passed, close-passed}
 use Rattle.laws.proofs.Laws.Calls.{append-passed, clear-passed, purge-passed}
-use Rattle.laws.proofs.Laws.Tracks.{alive, shownBy-tests, tracks-admits}
-use Rattle.rules.specs.Promises.{ledgerSees, ledgerApplies}
+use Rattle.laws.proofs.Laws.Tracks.{alive, shownBy-marks, tracks-admits}
+use Rattle.rules.specs.Promises.{marksIn}
 use Rattle.laws.proofs.Laws.Tracks.{tracks-sees}
 use Rattle.laws.proofs.Laws.Tracks.{tracks-applies}
 use Rattle.laws.proofs.Laws.PartitionFollows.{follows-shown}
@@ -79,9 +80,9 @@ module _ {st : Store} {g : Ledger} (F : Follows st g) (r : Reader) (p : ℕ) (h 
   shown o = let m = managerOf st in
       follows-shown (F .partition p h) (seesOf r m) (appliesOf r m) (low-sees m (F .ok .manager) r o)
         (low-applies m (F .ok .manager) r o)
-      ∙ (shows-ext (λ j. alive g j && seesOf r m j) (λ k. alive g k && appliesOf r m k) (ledgerSees r g)
-        (ledgerApplies r g) (tracks-sees (F .tracks) r o) (tracks-applies (F .tracks) r o) (linesAt p g)
-      ∙ sym (shownBy-tests r p g))
+      ∙ (shows-ext (λ j. alive g j && seesOf r m j) (λ k. alive g k && appliesOf r m k) (λ j. elem j (marksIn r g))
+        (λ k. elem k (marksIn r g)) (tracks-sees (F .tracks) r o) (tracks-applies (F .tracks) r o) (linesAt p g)
+      ∙ sym (shownBy-marks r p g))
 
   pub follows-agrees : (lent : List ℕ) → bytesFor (partitionAt p st .rows) ≤ length lent → Agrees st g r p lent
   follows-agrees lent enough =

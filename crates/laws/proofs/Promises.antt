@@ -6,7 +6,7 @@
 -- Assumes nothing.
 use mathlib.Core.Path.{_≡_, refl, sym, _∙_, ap}
 use mathlib.Core.Bool.{Bool, true, false}
-use mathlib.Core.List.{List, [], _∷_, _++_, append-nil}
+use mathlib.Core.List.{List, [], _∷_}
 use Prim.Native.Nat.{ℕ, _≤_, _<_}
 use lib.ListN.{length}
 use lib.Dec.{eqb}
@@ -22,21 +22,21 @@ use Rattle.rules.specs.Store.{Store, managerOf, partitionAt}
 use Rattle.rules.specs.Answers.{replyOf, secondValue, accepted}
 use Rattle.rules.specs.WellFormed.{wellFormed}
 use Rattle.rules.specs.Calls.{closeAnswer, scanAnswer}
-use Rattle.rules.specs.Step.{Call, create, rollback, commit, step, run}
+use Rattle.rules.specs.Step.{Call, create, clear, rollback, commit, step, run}
 use Rattle.rules.specs.Ledger.{Line, row, delete, Ledger, heard, linesAt, concealed, showsIn, shows}
 use Rattle.rules.specs.Claim.{eventOf, history, ledgerOf, isOpenIn, shownBy, wordsScanned}
 use Rattle.rules.specs.Histories.{Made, storeAfter, ledgerAfter, HistorySound, HistoryLce, oldest, ledgerNext}
 use Rattle.rules.specs.Histories.{NewClosesAll, NamesOldest, HistoryNamesOldest, HistoryNamesHolder}
-use Rattle.rules.specs.Promises.{spares, rowsOf, rowsBy, HistoryPageUnchanged, HistoryLoadUnchanged, ledgerSees}
-use Rattle.rules.specs.Promises.{ledgerApplies, unhiddenIn, unhidden, shownLines, marked, wordsIn, HistoryLandsWhole}
+use Rattle.rules.specs.Promises.{spares, ownStep, ownRun, HistoryPageUnchanged, HistoryLoadByOwn, HistoryReloads}
+use Rattle.rules.specs.Promises.{marksIn, unhiddenIn, unhidden, shownLines, marked, wordsIn, HistoryLandsWhole}
 use Rattle.rules.specs.declared.Reader.{Reader}
 use Rattle.rules.specs.declared.Reader.the-variants.{Rw, Ro}
 use Rattle.laws.proofs.Laws.WellFormed.{store-ok}
 use Rattle.laws.proofs.Laws.Sound.{sound-created, sound-run, sound-answers}
-use Rattle.laws.proofs.Laws.Calls.{close-passed}
+use Rattle.laws.proofs.Laws.Calls.{close-passed, clear-passed}
 use Rattle.laws.proofs.Laws.Oldest.{tracks-oldest}
-use Rattle.laws.proofs.Laws.Tracks.{Tracks, shownBy-tests, tracks-admits, tracks-latest, tracks-holder}
-use Rattle.laws.proofs.Laws.Stays.{rowsOf-page, Stays, stays-still, stays-twice, stays-step}
+use Rattle.laws.proofs.Laws.Tracks.{Tracks, shownBy-marks, tracks-admits, tracks-latest, tracks-holder}
+use Rattle.laws.proofs.Laws.Stays.{ownStep-page, Stays, stays-still, stays-twice, stays-step}
 use Rattle.laws.proofs.Laws.Follows.{Follows}
 use Rattle.laws.proofs.History.{follows-step, follows-run, follows-agrees, follows-made}
 
@@ -87,29 +87,30 @@ history-names-holder s st h calls i t l =
     let T = follows-step (commit i) F .tracks in
     rw (commit-names F i t) (tracks-holder T i (commit-heard at g i t) l)
 
--- ---- a reader that no call closes is shown what it was shown and its own new rows
+-- ---- what a reader is shown that no call closes, its own calls change, and no other does
 
 stays-run : (r : Reader) (calls : List Call) {st : Store} {g : Ledger} → Follows st g → isOpenIn r g ≡ true
-    → allOf (spares r) calls ≡ true → Stays r g (ledgerOf (history calls st) g) (λ p. rowsBy r p calls st)
+    → allOf (spares r) calls ≡ true → Stays r g (ledgerOf (history calls st) g) (λ p. ownRun r p calls st)
 unfolding history ledgerOf
 stays-run r [] {st} {g} F o h = stays-still r g o
 stays-run r (c ∷ cs) {st} {g} F o h =
     let S = stays-step F r o c (and-left (spares r c) (allOf (spares r) cs) h) in
-    stays-twice r g _ _ (λ p. rowsOf r p c (step c st .answer)) (λ p. rowsBy r p cs (step c st .store)) S
+    stays-twice r g _ _ (λ p. ownStep r p c (step c st .answer)) (λ p. ownRun r p cs (step c st .store)) S
     (stays-run r cs (follows-step c F) (S .opened) (and-right (spares r c) (allOf (spares r) cs) h))
 
--- what scans show grows by the same rows
+-- and so with what scans show
 scans-run : (r : Reader) (calls : List Call) {st : Store} {g : Ledger} → Follows st g → isOpenIn r g ≡ true
     → allOf (spares r) calls ≡ true → (p : ℕ) → p < partitionsMax → (lent : List ℕ)
     → bytesFor (partitionAt p st .rows) ≤ length lent → bytesFor (partitionAt p (run calls st) .rows) ≤ length lent
-    → wordsScanned r p lent (run calls st) ≡ wordsScanned r p lent st ++ rowsBy r p calls st
+    → wordsScanned r p lent (run calls st) ≡ ownRun r p calls st (wordsScanned r p lent st)
 scans-run r calls {st} F o h p k lent n n′ = let S = stays-run r calls F o h in
     follows-agrees (follows-run calls F) r p k lent n′ .shows (S .opened)
-    ∙ (S .shown p k ∙ ap (λ ws. ws ++ rowsBy r p calls st) (sym (follows-agrees F r p k lent n .shows o)))
+    ∙ (S .shown p k ∙ ap (ownRun r p calls st) (sym (follows-agrees F r p k lent n .shows o)))
 
-rowsBy-page : (t p : ℕ) (calls : List Call) (st : Store) → rowsBy (Ro t) p calls st ≡ []
-rowsBy-page t p [] st = refl
-rowsBy-page t p (c ∷ cs) st = rw (rowsOf-page t p c (step c st .answer)) (rowsBy-page t p cs (step c st .store))
+ownRun-page : (t p : ℕ) (calls : List Call) (st : Store) (ws : List ℕ) → ownRun (Ro t) p calls st ws ≡ ws
+ownRun-page t p [] st ws = refl
+ownRun-page t p (c ∷ cs) st ws = rw (ownStep-page t p c (step c st .answer) ws)
+    (ownRun-page t p cs (step c st .store) ws)
 
 pub history-page-unchanged : HistoryPageUnchanged
 history-page-unchanged s st h before t o calls k =
@@ -117,14 +118,22 @@ history-page-unchanged s st h before t o calls k =
     let S = stays-run (Ro t) calls F o k in
     record {
       opened = S .opened;
-      shown = λ p l. S .shown p l ∙ rw (rowsBy-page t p calls at) (append-nil (shownBy (Ro t) p g));
+      shown = λ p l. S .shown p l ∙ ownRun-page t p calls at (shownBy (Ro t) p g);
       scans = λ p l lent n n′. scans-run (Ro t) calls F o k p l lent n n′
-        ∙ rw (rowsBy-page t p calls at) (append-nil (wordsScanned (Ro t) p lent at)) }
+        ∙ ownRun-page t p calls at (wordsScanned (Ro t) p lent at) }
 
-pub history-load-unchanged : HistoryLoadUnchanged
-history-load-unchanged s st h before i o calls k =
+pub history-load-by-own : HistoryLoadByOwn
+history-load-by-own s st h before i o calls k =
     let F = follows-history s st h before in let S = stays-run (Rw i) calls F o k in
     record { opened = S .opened; shown = S .shown; scans = scans-run (Rw i) calls F o k }
+
+pub history-reloads : HistoryReloads
+unfolding step run eventOf
+history-reloads s st h before i p t calls k lent n =
+    let F = follows-history s st h before in let c = clear-passed i p (storeAfter s st before) t .0 in
+    let o = F .tracks .writers .same i ∙ c .pending in let S = stays-run (Rw i) (clear i p ∷ calls) F o k in
+    follows-agrees (follows-run (clear i p ∷ calls) F) (Rw i) p (c .partition) lent n .shows (S .opened)
+    ∙ (S .shown p (c .partition) ∙ rw (eq-eqb i i refl, eq-eqb p p refl, t))
 
 -- ---- a load lands whole
 
@@ -140,8 +149,8 @@ words-unhidden s a all (delete k ∷ ls) = words-unhidden s a all ls
 
 words-shown : (r : Reader) (p : ℕ) (g : Ledger) → wordsIn (shownLines r p g) ≡ shownBy r p g
 unfolding shows
-words-shown r p g = words-unhidden (ledgerSees r g) (ledgerApplies r g) (linesAt p g) (linesAt p g)
-    ∙ sym (shownBy-tests r p g)
+words-shown r p g = let s : ℕ → Bool = λ j. elem j (marksIn r g) in
+    words-unhidden s s (linesAt p g) (linesAt p g) ∙ sym (shownBy-marks r p g)
 
 -- of the rows whose mark passes s, those marked j
 module _ (s : ℕ → Bool) (j : ℕ) (xs : List (ℕ × ℕ)) where
@@ -160,8 +169,8 @@ history-lands-whole s st h calls r o =
     record {
       shown = λ p. words-shown r p g;
       scans = λ p l lent n. follows-agrees F r p l lent n .shows o ∙ sym (words-shown r p g);
-      whole = λ j t p. marked-seen (ledgerSees r g) j (unhidden r p g) t;
-      nothing = λ j f p. marked-unseen (ledgerSees r g) j (unhidden r p g) f }
+      whole = λ j t p. marked-seen (λ k. elem k (marksIn r g)) j (unhidden r p g) t;
+      nothing = λ j f p. marked-unseen (λ k. elem k (marksIn r g)) j (unhidden r p g) f }
 
 -- ---- making new closes all
 

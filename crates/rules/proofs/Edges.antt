@@ -1,4 +1,4 @@
--- The worked session of 01 "A session", the edges of "Marked for proof" and of 01's refusals, and the order
+-- The worked session of 01 "A session", the edges of "Marked for proof", of 01's refusals and of 02, and the order
 -- of the refusals.
 -- In order: session-holds, edges-hold, order-holds.
 -- Assumes nothing.
@@ -45,7 +45,7 @@ session =
 pub sessionCase : Case
 sessionCase =
     case (made 1) [] (linesOf session)
-    (ok 1 ∷ ok 2 ∷ ok 2 ∷ ok 3 ∷ closed 1 2 ∷ ok 1 ∷ ok 3 ∷ (0 ∷ 20 ∷ []) ∷ closed 2 0
+    (ok 1 ∷ ok 2 ∷ ok 2 ∷ ok 3 ∷ closed 1 2 ∷ ok 1 ∷ ok 3 ∷ only 0 ∷ closed 2 0
     ∷ (0 ∷ 10 ∷ 11 ∷ []) ∷ ok 2 ∷ only 0 ∷ only 10 ∷ ok 1 ∷ ok 2 ∷ ok 1 ∷ only 2 ∷ [])
 
 pub session-holds : observed sessionCase ≡ sessionCase .expected
@@ -101,6 +101,13 @@ edges =
     ∷ case (made 1) (begin ∷ begin ∷ []) (linesOf (commit 2 ∷ commit 1 ∷ [])) (closed 0 1 ∷ closed 2 0 ∷ [])
     ∷ case (made 1) (begin ∷ begin ∷ begin ∷ []) (linesOf (commit 2 ∷ rollback 1 ∷ [])) (closed 0 1 ∷ closed 2 3 ∷ [])
     ∷ case (made 1) (begin ∷ []) (linesOf (rollback 1 ∷ rollback 1 ∷ [])) (closed 0 0 ∷ only 2 ∷ [])
+    -- 02 (ii): a transaction is shown of a partition that it cleared what it appends from then on; until it commits,
+    -- others are shown what they were
+    ∷ case (made 1) (begin ∷ append 1 0 (1 ∷ []) ∷ clear 1 0 ∷ append 1 0 (2 ∷ []) ∷ []) (linesOf (look (Rw 1) ∷ []))
+      ((0 ∷ 2 ∷ []) ∷ [])
+    ∷ case (made 1) (begin ∷ append 1 0 (5 ∷ []) ∷ commit 1 ∷ begin ∷ begin ∷ clear 2 0 ∷ beginRo 0 ∷ [])
+      (linesOf (look (Rw 2) ∷ append 2 0 (6 ∷ []) ∷ look (Rw 2) ∷ look (Rw 3) ∷ look (Ro 1) ∷ []))
+      (only 0 ∷ ok 2 ∷ (0 ∷ 6 ∷ []) ∷ (0 ∷ 5 ∷ []) ∷ (0 ∷ 5 ∷ []) ∷ [])
     -- 01 "Where hands go wrong", first: 1 open, 2 committed, 3 begun, 1 committed; LSE stays below 1 while 3
     -- is open
     ∷ case (made 1) (begin ∷ begin ∷ append 1 0 (1 ∷ []) ∷ append 2 0 (2 ∷ []) ∷ commit 2 ∷ begin ∷ commit 1 ∷ [])

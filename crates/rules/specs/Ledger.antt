@@ -132,18 +132,18 @@ noSnapshot = record { name = 0; marks = [] }
 abbrev pub marksOf : ℕ → List Snapshot → List ℕ
 marksOf n ss = firstOf (named n) noSnapshot ss .marks
 
--- an open read-write transaction does not apply its own delete
+-- an open transaction applies the deletes whose mark is in its snapshot, a read-write one its own too (02 (ii))
+abbrev pub showsBy : List ℕ → List Line → List ℕ
+showsBy marks ls = shows (λ j. elem j marks) (λ k. elem k marks) ls
+
 abbrev pub hasOpenRw : ℕ → Ledger → Bool
 hasOpenRw i g = anyOf (named i) (g .writers)
 
 unfoldable pub writerShows : ℕ → ℕ → Ledger → List ℕ
-writerShows i p g =
-    let marks = marksOf i (g .writers) in
-    shows (λ j. elem j marks) (λ k. elem k marks && not (eqb k i)) (linesAt p g)
+writerShows i p g = showsBy (marksOf i (g .writers)) (linesAt p g)
 
 abbrev pub hasOpenRo : ℕ → Ledger → Bool
 hasOpenRo t g = anyOf (named t) (g .readers)
 
 unfoldable pub readerShows : ℕ → ℕ → Ledger → List ℕ
-readerShows t p g =
-    let marks = marksOf t (g .readers) in shows (λ j. elem j marks) (λ k. elem k marks) (linesAt p g)
+readerShows t p g = showsBy (marksOf t (g .readers)) (linesAt p g)

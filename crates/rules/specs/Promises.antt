@@ -1,5 +1,5 @@
 -- What demand 3 comes to for readers, over every history (Histories.antt). 01 "The ledger of demand 3".
--- In order: the calls that close a reader, and the rows that it adds; a page; a load; a load lands whole.
+-- In order: the calls that close a reader, and what its own calls change; a page; a load; a load lands whole.
 -- Proofs: laws/proofs/Promises.antt.
 -- Assumes nothing.
 use mathlib.Core.Path.{_≡_}
@@ -23,7 +23,7 @@ use Rattle.rules.specs.declared.Reader.{Reader}
 use Rattle.rules.specs.declared.Reader.the-variants.{Rw, Ro}
 use Rattle.rules.specs.declared.Answer.{Answer}
 
--- ---- the calls that close a reader, and the rows that it adds
+-- ---- the calls that close a reader, and what its own calls change
 
 abbrev pub isLoad : ℕ → Reader → Bool
 isLoad j (Rw i) = eqb j i
@@ -49,20 +49,21 @@ closes r other = false
 abbrev pub spares : Reader → Call → Bool
 spares r c = not (closes r (eventOf c (yields [])))
 
--- the rows that an accepted append by r adds to partition p
-abbrev pub rowsOf : Reader → ℕ → Call → Answer → List ℕ
-rowsOf r p (create s) a = []
-rowsOf r p (manage c) a = []
-rowsOf r p (append i q batch) a = cond (isLoad i r && eqb p q && accepted a) batch []
-rowsOf r p (clear i q) a = []
-rowsOf r p (rollback i) a = []
-rowsOf r p (scan v q lent) a = []
-rowsOf r p (purge q) a = []
+-- where r was shown ws of partition p, its own accepted append puts the batch at the end, and its own accepted clearing
+-- (02 (ii)) leaves nothing; no other call changes it
+abbrev pub ownStep : Reader → ℕ → Call → Answer → List ℕ → List ℕ
+ownStep r p (create s) a ws = ws
+ownStep r p (manage c) a ws = ws
+ownStep r p (append i q batch) a ws = cond (isLoad i r && eqb p q && accepted a) (ws ++ batch) ws
+ownStep r p (clear i q) a ws = cond (isLoad i r && eqb p q && accepted a) [] ws
+ownStep r p (rollback i) a ws = ws
+ownStep r p (scan v q lent) a ws = ws
+ownStep r p (purge q) a ws = ws
 
--- and those of a list of calls, in order
-abbrev pub rowsBy : Reader → ℕ → List Call → Store → List ℕ
-rowsBy r p [] st = []
-rowsBy r p (c ∷ cs) st = rowsOf r p c (step c st .answer) ++ rowsBy r p cs (step c st .store)
+-- a list of calls, in order
+abbrev pub ownRun : Reader → ℕ → List Call → Store → List ℕ → List ℕ
+ownRun r p [] st ws = ws
+ownRun r p (c ∷ cs) st ws = ownRun r p cs (step c st .store) (ownStep r p c (step c st .answer) ws)
 
 -- ---- a page: until it is closed, what it shows does not change
 
@@ -81,32 +82,37 @@ HistoryPageUnchanged =
       isOpenIn (Ro t) g ≡ true → (calls : List Call) → allOf (spares (Ro t)) calls ≡ true
     → PageSame t g (ledgerOf (history calls at) g) at (run calls at)
 
--- ---- a load: until it is closed, what it shows grows by the rows that it appends, and by nothing else
+-- ---- a load: until it is closed, what it shows changes by its own appends and clearings, and by nothing else
 
-pub record LoadGrown (i : ℕ) (own : ℕ → List ℕ) (g g′ : Ledger) (st st′ : Store) : Type 0 where
+pub record LoadByOwn (i : ℕ) (own : ℕ → List ℕ → List ℕ) (g g′ : Ledger) (st st′ : Store) : Type 0 where
   pub opened : isOpenIn (Rw i) g′ ≡ true
-  pub shown : (p : ℕ) → p < partitionsMax → shownBy (Rw i) p g′ ≡ shownBy (Rw i) p g ++ own p
+  pub shown : (p : ℕ) → p < partitionsMax → shownBy (Rw i) p g′ ≡ own p (shownBy (Rw i) p g)
   pub scans : (p : ℕ) → p < partitionsMax → (lent : List ℕ) → bytesFor (partitionAt p st .rows) ≤ length lent
       → bytesFor (partitionAt p st′ .rows) ≤ length lent
-      → wordsScanned (Rw i) p lent st′ ≡ wordsScanned (Rw i) p lent st ++ own p
+      → wordsScanned (Rw i) p lent st′ ≡ own p (wordsScanned (Rw i) p lent st)
 
-abbrev pub HistoryLoadUnchanged : Type 0
-HistoryLoadUnchanged =
+abbrev pub HistoryLoadByOwn : Type 0
+HistoryLoadByOwn =
     (s : ℕ) (st : Store) → Made s st → (before : List Call) (i : ℕ)
     → let g = ledgerAfter s st before in let at = storeAfter s st before in
       isOpenIn (Rw i) g ≡ true → (calls : List Call) → allOf (spares (Rw i)) calls ≡ true
-    → LoadGrown i (λ p. rowsBy (Rw i) p calls at) g (ledgerOf (history calls at) g) at (run calls at)
+    → LoadByOwn i (λ p. ownRun (Rw i) p calls at) g (ledgerOf (history calls at) g) at (run calls at)
+
+-- so a partition that it clears and loads anew shows it what it loads from then on, and nothing else
+abbrev pub HistoryReloads : Type 0
+HistoryReloads =
+    (s : ℕ) (st : Store) → Made s st → (before : List Call) (i p : ℕ)
+    → let at = step (clear i p) (storeAfter s st before) in accepted (at .answer) ≡ true
+    → (calls : List Call) → allOf (spares (Rw i)) calls ≡ true → (lent : List ℕ)
+    → bytesFor (partitionAt p (run calls (at .store)) .rows) ≤ length lent
+    → wordsScanned (Rw i) p lent (run calls (at .store)) ≡ ownRun (Rw i) p calls (at .store) []
 
 -- ---- a load lands whole: of a load in its snapshot a reader is shown, in every partition, all rows but those that a
 -- clearing hides which the reader applies; of any other load it is shown no row, in any partition
 
-abbrev pub ledgerSees : Reader → Ledger → ℕ → Bool
-ledgerSees (Rw i) g j = elem j (marksOf i (g .writers))
-ledgerSees (Ro t) g j = elem j (marksOf t (g .readers))
-
-abbrev pub ledgerApplies : Reader → Ledger → ℕ → Bool
-ledgerApplies (Rw i) g k = elem k (marksOf i (g .writers)) && not (eqb k i)
-ledgerApplies (Ro t) g k = elem k (marksOf t (g .readers))
+abbrev pub marksIn : Reader → Ledger → List ℕ
+marksIn (Rw i) g = marksOf i (g .writers)
+marksIn (Ro t) g = marksOf t (g .readers)
 
 -- mark and word of each row of a partition's list, in its order, but of those that a clearing hides which r applies
 abbrev pub unhiddenIn : (ℕ → Bool) → List Line → List Line → List (ℕ × ℕ)
@@ -116,11 +122,11 @@ unhiddenIn applies all (row j w ∷ ls) =
 unhiddenIn applies all (delete k ∷ ls) = unhiddenIn applies all ls
 
 abbrev pub unhidden : Reader → ℕ → Ledger → List (ℕ × ℕ)
-unhidden r p g = unhiddenIn (ledgerApplies r g) (linesAt p g) (linesAt p g)
+unhidden r p g = unhiddenIn (λ k. elem k (marksIn r g)) (linesAt p g) (linesAt p g)
 
 -- of these the ones whose mark is in its snapshot: the rows that r is shown
 abbrev pub shownLines : Reader → ℕ → Ledger → List (ℕ × ℕ)
-shownLines r p g = keepIf (λ x. ledgerSees r g (x .0)) (unhidden r p g)
+shownLines r p g = keepIf (λ x. elem (x .0) (marksIn r g)) (unhidden r p g)
 
 abbrev pub marked : ℕ → List (ℕ × ℕ) → List (ℕ × ℕ)
 marked j xs = keepIf (λ x. eqb (x .0) j) xs
@@ -133,8 +139,8 @@ pub record LandsWhole (r : Reader) (g : Ledger) (st : Store) : Type 0 where
   pub shown : (p : ℕ) → wordsIn (shownLines r p g) ≡ shownBy r p g
   pub scans : (p : ℕ) → p < partitionsMax → (lent : List ℕ) → bytesFor (partitionAt p st .rows) ≤ length lent
       → wordsScanned r p lent st ≡ wordsIn (shownLines r p g)
-  pub whole : (j : ℕ) → ledgerSees r g j ≡ true → (p : ℕ) → marked j (shownLines r p g) ≡ marked j (unhidden r p g)
-  pub nothing : (j : ℕ) → ledgerSees r g j ≡ false → (p : ℕ) → marked j (shownLines r p g) ≡ []
+  pub whole : (j : ℕ) → elem j (marksIn r g) ≡ true → (p : ℕ) → marked j (shownLines r p g) ≡ marked j (unhidden r p g)
+  pub nothing : (j : ℕ) → elem j (marksIn r g) ≡ false → (p : ℕ) → marked j (shownLines r p g) ≡ []
 
 abbrev pub HistoryLandsWhole : Type 0
 HistoryLandsWhole =

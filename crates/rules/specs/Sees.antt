@@ -11,9 +11,10 @@ use Rattle.lists.specs.Lists.{elem}
 unfoldable pub seesRw : ℕ → List ℕ → ℕ → Bool
 seesRw i deps j = eqb j i || (ltb j i && not (elem j deps))
 
--- it applies the deletes that it sees of earlier epochs, and not its own
+-- it applies the deletes that it sees of epochs up to its own, its own included (02 (ii)): these are all that it sees
+-- (`applies-sees`)
 unfoldable pub appliesRw : ℕ → List ℕ → ℕ → Bool
-appliesRw i deps k = seesRw i deps k && ltb k i
+appliesRw i deps k = seesRw i deps k && leb k i
 
 -- a read-only transaction at e sees each j ≤ e and applies each k ≤ e (004 has k < e, which misses the delete
 -- committed last)

@@ -122,7 +122,7 @@ output =
     ∷ says "C 0 1 2\n" (Manage (Commit 1)) (Closed 1 2)
     ∷ says "R 0 1\n" (Manage (BeginRo 0)) (BegunRo 1)
     ∷ says "D 0 3\n" (Clear 2 0) (Cleared 3)
-    ∷ shows "S 0 20\n" (Scan (Rw 2) 0) (Scanned 3 1) (20 ∷ [])
+    ∷ shows "S 0\n" (Scan (Rw 2) 0) (Scanned 3 0) []
     ∷ says "C 0 2 0\n" (Manage (Commit 2)) (Closed 2 0)
     ∷ shows "S 0 10 11\n" (Scan (Ro 1) 0) (Scanned 3 2) (10 ∷ 11 ∷ [])
     ∷ says "R 0 2\n" (Manage (BeginRo 0)) (BegunRo 2)

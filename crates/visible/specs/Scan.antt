@@ -14,7 +14,7 @@ use Rattle.rules.specs.WellFormed.{endsOk}
 use Rattle.visible.specs.declared.View.{View}
 use Rattle.area.specs.declared.Area.{Area}
 use Rattle.visible.specs.declared.Scanned.{Scanned}
-use Rattle.visible.specs.View.{seesView, appliesView}
+use Rattle.visible.specs.View.{seesView}
 use Rattle.area.specs.Area.{entriesIn}
 use Rattle.visible.specs.Flags.{flagsOf}
 
@@ -22,9 +22,9 @@ use Rattle.visible.specs.Flags.{flagsOf}
 unfoldable pub scanOk : Area → ℕ → List ℕ → Bool
 scanOk t rows lent = endsOk rows 0 (entriesIn t) && (leb rows rowsMax && leb (bytesFor rows) (length lent))
 
--- the flags of a reader
+-- the flags of a reader: it applies the deletes that it sees (laws' `applies-all`)
 abbrev pub viewFlags : View → List Entry → List Bool
-viewFlags v es = flagsOf (seesView v) (appliesView v) es
+viewFlags v es = flagsOf (seesView v) (seesView v) es
 
 abbrev pub tableFlags : View → Area → List Bool
 tableFlags v t = viewFlags v (entriesIn t)

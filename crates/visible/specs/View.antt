@@ -1,5 +1,5 @@
--- What a reader sees and applies, by its view. 01 "Who sees a row".
--- In order: depsWith, depsIn, seesView, appliesView, pageView. Laws: proofs/Laws/View.antt.
+-- What a reader sees, by its view. 01 "Who sees a row".
+-- In order: depsWith, depsIn, seesView, pageView.
 -- Assumes nothing.
 use mathlib.Core.Bool.{Bool, cond}
 use mathlib.Core.List.{List, []}
@@ -8,7 +8,7 @@ use lib.ListN.{length, take}
 use lib.Dec.{eqb}
 use Rattle.lists.specs.Lists.{pad}
 use Rattle.rules.specs.Limits.{depsMax}
-use Rattle.rules.specs.Sees.{seesRw, appliesRw, upTo}
+use Rattle.rules.specs.Sees.{seesRw, upTo}
 use Rattle.visible.specs.declared.Deps.{Deps}
 use Rattle.visible.specs.declared.View.{View}
 
@@ -25,9 +25,6 @@ isRw v = eqb (v .rw) 1
 
 unfoldable pub seesView : View → ℕ → Bool
 seesView v = cond (isRw v) (seesRw (v .epoch) (depsIn v)) (upTo (v .epoch))
-
-unfoldable pub appliesView : View → ℕ → Bool
-appliesView v = cond (isRw v) (appliesRw (v .epoch) (depsIn v)) (upTo (v .epoch))
 
 -- a read-only transaction at epoch e
 abbrev pub pageView : ℕ → View

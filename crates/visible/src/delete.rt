@@ -1,7 +1,7 @@
-// The greatest delete (01: clearing) that a reader applies: it alone says which rows are hidden.
-// 01 "Who sees a row".
+// The greatest delete (01: clearing) that a reader applies, and so the greatest that it sees: it alone says which
+// rows are hidden. 01 "Who sees a row".
 use crate::View;
-use crate::sees::applies;
+use crate::sees::sees;
 use area::Area;
 use places::in_use;
 use rules::Entry;
@@ -11,7 +11,7 @@ ghost use Prim.Native.Nat.{_<_};
 ghost use lib.ListN.{take};
 ghost use Rattle.rules.specs.Limits.{entriesMax};
 ghost use Rattle.rules.specs.Top.{topDelete, topStep, covers};
-ghost use Rattle.visible.specs.View.{appliesView};
+ghost use Rattle.visible.specs.View.{seesView};
 ghost use Rattle.rules.specs.Bare.{bareSpan, bare};
 ghost use Rattle.visible.specs.Passes.{asTop};
 
@@ -24,7 +24,7 @@ pub struct Top {
 // The entry at index i, after those before it.
 fn top_step(v: View, top: Top, e: Entry, i: usize) -> Top
     requires { ⌜ i < entriesMax ⌝ }
-    ensures { λ r. ⌜ asTop r ≡ topStep (appliesView v) i (asTop top) (bareSpan 0 e) ⌝ }
+    ensures { λ r. ⌜ asTop r ≡ topStep (seesView v) i (asTop top) (bareSpan 0 e) ⌝ }
 {
     if e.mark != 1 {
         return top;
@@ -32,7 +32,7 @@ fn top_step(v: View, top: Top, e: Entry, i: usize) -> Top
     if e.epoch < top.epoch {
         return top;
     }
-    if !applies(v, e.epoch) {
+    if !sees(v, e.epoch) {
         return top;
     }
     Top {
@@ -43,7 +43,7 @@ fn top_step(v: View, top: Top, e: Entry, i: usize) -> Top
 
 // Of the first n entries, or of all where there are fewer.
 pub fn find_top(v: View, t: Area, n: usize) -> Top
-    ensures { λ r. ⌜ asTop r ≡ topDelete (appliesView v) (bare 0 (take n (t .at))) ⌝ }
+    ensures { λ r. ⌜ asTop r ≡ topDelete (seesView v) (bare 0 (take n (t .at))) ⌝ }
 {
     let m = in_use(n, ENTRIES_MAX);
     let mut top = Top { epoch: 0, at: 0 };

@@ -1,4 +1,4 @@
-// Which epochs a reader sees, and which deletes (01: clearings) it applies. 01 "Who sees a row".
+// Which epochs a reader sees; the deletes (01: clearings) of these it applies. 01 "Who sees a row".
 use crate::Deps;
 use crate::View;
 use places::in_use;
@@ -6,7 +6,7 @@ use rules::limits::DEPS_MAX;
 ghost use mathlib.Core.Path.{_≡_};
 ghost use lib.ListN.{take};
 ghost use Rattle.lists.specs.Lists.{elem};
-ghost use Rattle.visible.specs.View.{seesView, appliesView};
+ghost use Rattle.visible.specs.View.{seesView};
 
 // Whether j is among the deps in use.
 fn in_deps(d: Deps, j: u64) -> bool
@@ -38,17 +38,4 @@ pub fn sees(v: View, j: u64) -> bool
     }
     let d = v.deps;
     !in_deps(d, j)
-}
-
-// Whether the reader applies a delete of epoch k: a read-write transaction not its own.
-pub fn applies(v: View, k: u64) -> bool
-    ensures { λ r. ⌜ r ≡ appliesView v k ⌝ }
-{
-    if v.rw != 1 {
-        return k <= v.epoch;
-    }
-    if v.epoch <= k {
-        return false;
-    }
-    sees(v, k)
 }

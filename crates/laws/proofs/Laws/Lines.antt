@@ -7,12 +7,14 @@
 use mathlib.Core.Path.{_≡_, refl, sym, _∙_, ap}
 use mathlib.Core.Bool.{Bool, true, false, not, _&&_}
 use mathlib.Core.List.{List, [], _∷_, _++_, map, append-nil}
-use Prim.Native.Nat.{ℕ}
+use Prim.Native.Nat.{ℕ, _≤_, _<_}
+use native.Mathlib.Omega.{arith}
 use lib.Dec.{ltb, eqb}
+use borrow.Author.Tests.{ltb-true, ltb-false, eq-eqb, lt-ltb}
 use Rattle.lists.specs.Lists.{keepIf, anyOf}
 use Rattle.lists.proofs.Laws.All.{All, All-every, All-imp, All-append, All-map, anyOf-ext}
 use Rattle.lists.proofs.Laws.All.{anyOf-none, keepIf-keepIf, keepIf-ext, keepIf-all}
-use Rattle.lists.proofs.Laws.Bools.{split, and-assoc, or-false}
+use Rattle.lists.proofs.Laws.Bools.{split, split-eq, and-false, and-assoc, or-false, or-right}
 use Rattle.lists.proofs.Laws.Filter.{keepIf-append, anyOf-append, anyOf-keepIf}
 use Rattle.lists.proofs.Laws.Tests.{and-comm}
 use Rattle.rules.specs.Ledger.{Line, row, delete, deletes, concealed, showsIn, shows}
@@ -190,7 +192,7 @@ module _ (s a : ℕ → Bool) where
       ∙ append-nil (showsIn s a ls ls))
 
   -- rows of a mark that the reader sees, where it applies no delete of a later mark
-  module _ (i : ℕ) (sees : s i ≡ true) (later : (k : ℕ) → a k && ltb i k ≡ false) where
+  module _ (i : ℕ) (sees : s i ≡ true) (later : (k : ℕ) → i < k → a k ≡ false) where
     shows-ownIn : (all : List Line) (ws : List ℕ) → showsIn s a all (map (row i) ws) ≡ ws
     unfolding showsIn concealed
     shows-ownIn all [] = refl
@@ -199,9 +201,34 @@ module _ (s a : ℕ → Bool) where
       where
         none : (x : Line) → deletes (both a (ltb i)) x ≡ false
         none (row j v) = refl
-        none (delete k) = later k
+        none (delete k) = split (ltb i k) (λ t. rw (later k (ltb-true i k t))) (λ f. rw f (and-false (a k)))
 
     pub shows-own : (ls : List Line) (ws : List ℕ) → shows s a (ls ++ map (row i) ws) ≡ shows s a ls ++ ws
     unfolding shows
     shows-own ls ws = shows-addedIn (map (row i) ws) (All-map (Unapplied a) (row i) (λ v. tt) ws) ls ls
         ∙ ap (λ zs. showsIn s a ls ls ++ zs) (shows-ownIn (ls ++ map (row i) ws) ws)
+
+  -- a delete that the reader applies, where it sees no row of a later mark: nothing is left
+  module _ (i : ℕ) (applied : a i ≡ true) (later : (j : ℕ) → i < j → s j ≡ false) where
+    last-applies : (q : ℕ → Bool) → q i ≡ true → (xs : List Line) → anyDelete (both a q) (xs ++ delete i ∷ []) ≡ true
+    last-applies q h xs = anyOf-append (deletes (both a q)) xs (delete i ∷ [])
+        ∙ or-right (anyDelete (both a q) xs) _ (rw (applied, h))
+
+    last-conceals : (all xs : List Line) (j : ℕ) → j ≤ i → concealed a (all ++ delete i ∷ []) (xs ++ delete i ∷ []) j
+        ≡ true
+    unfolding concealed
+    last-conceals all xs j h = split-eq j i
+      (λ e. or-right (anyDelete (both a (ltb j)) (all ++ delete i ∷ [])) _ (last-applies (eqb j) (eq-eqb j i e) xs))
+      (λ n. rw (last-applies (ltb j) (lt-ltb j i (omega arith)) all))
+
+    shows-clearedIn : (all xs : List Line) → showsIn s a (all ++ delete i ∷ []) (xs ++ delete i ∷ []) ≡ []
+    unfolding showsIn
+    shows-clearedIn all [] = refl
+    shows-clearedIn all (row j w ∷ xs) = let ih = shows-clearedIn all xs in split (ltb i j)
+      (λ t. rw (later j (ltb-true i j t)) ih)
+      (λ f. rw (last-conceals all xs j (ltb-false i j f), and-false (s j)) ih)
+    shows-clearedIn all (delete k ∷ xs) = shows-clearedIn all xs
+
+    pub shows-cleared : (ls : List Line) → shows s a (ls ++ delete i ∷ []) ≡ []
+    unfolding shows
+    shows-cleared ls = shows-clearedIn ls ls

@@ -2,7 +2,7 @@
 -- rules/specs/Safe.antt.
 -- In order: Free, the greatest target, the value 0, advanced-ok, what lies up to LSE.
 -- Assumes nothing.
-use mathlib.Core.Path.{_≡_, refl, _∙_}
+use mathlib.Core.Path.{_≡_, refl}
 use mathlib.Core.Bool.{Bool, true, false, _&&_, cond}
 use mathlib.Core.Logic.{_⊎_, inl, inr}
 use mathlib.Core.List.{List, [], _∷_, _++_, map, List·Memᴰ as In, List·Memᴰ·not-nil, List·Memᴰ·append-cases}
@@ -29,7 +29,7 @@ use Rattle.rules.specs.declared.Reader.{Reader}
 use Rattle.rules.specs.declared.Reader.the-variants.{Rw, Ro}
 use Rattle.laws.proofs.Laws.Manager.{ManagerFacts, status-waits, manager-facts, manager-ok, opens-open}
 use Rattle.laws.proofs.Laws.Manager.{open-range}
-use Rattle.laws.proofs.Laws.Sees.{sees-earlier, applies-before}
+use Rattle.laws.proofs.Laws.Sees.{sees-earlier, applies-all}
 
 -- ---- what does not block n
 
@@ -181,6 +181,4 @@ module _ (m : Manager) (ok : managerOk m ≡ true) where
       le-leb j (epochAt t m) (omega arith)
 
   pub low-applies : (r : Reader) → isReader r m ≡ true → (j : ℕ) → j ≤ m .clock .lse → appliesOf r m j ≡ true
-  unfolding appliesOf seesOf
-  low-applies (Rw i) o j h = applies-before i (depsAt i m) j (low-before i o j h) ∙ low-sees (Rw i) o j h
-  low-applies (Ro t) o j h = low-sees (Ro t) o j h
+  low-applies r o j h = rw (applies-all r m) (low-sees r o j h)

@@ -1,17 +1,22 @@
 -- Which epochs a read-write transaction sees, case by case. 01 "Who sees a row". Definitions:
 -- rules/specs/Sees.antt.
 -- In order: its own epoch, later ones, earlier ones in its deps, other earlier ones; the deletes that it
--- applies.
+-- applies, and those that any reader does.
 -- Assumes nothing.
-use mathlib.Core.Path.{_≡_}
+use mathlib.Core.Path.{_≡_, refl, sym, _∙_}
 use mathlib.Core.Bool.{true, false, not}
 use mathlib.Core.List.{List}
-use Prim.Native.Nat.{ℕ, _≤_, _<_}
+use Prim.Native.Nat.{ℕ, _<_}
 use native.Mathlib.Omega.{arith}
-use borrow.Author.Tests.{eq-eqb, ne-eqb, lt-ltb, le-ltb}
+use lib.Dec.{leb}
+use borrow.Author.Tests.{eq-eqb, ne-eqb, lt-ltb, le-ltb, leb-false}
 use Rattle.lists.specs.Lists.{elem}
-use Rattle.lists.proofs.Laws.Bools.{and-false, and-true}
+use Rattle.lists.proofs.Laws.Bools.{split, and-false, and-true}
+use Rattle.rules.specs.Manager.{Manager, depsAt}
 use Rattle.rules.specs.Sees.{seesRw, appliesRw}
+use Rattle.rules.specs.Calls.{seesOf, appliesOf}
+use Rattle.rules.specs.declared.Reader.{Reader}
+use Rattle.rules.specs.declared.Reader.the-variants.{Rw, Ro}
 
 module _ (i : ℕ) (deps : List ℕ) (j : ℕ) where
   pub sees-own : j ≡ i → seesRw i deps j ≡ true
@@ -30,11 +35,15 @@ module _ (i : ℕ) (deps : List ℕ) (j : ℕ) where
   pub sees-earlier : j < i → elem j deps ≡ false → seesRw i deps j ≡ true
   sees-earlier h f = rw (sees-before h, f)
 
-  -- it applies the deletes of the earlier epochs that it sees
-  pub applies-before : j < i → appliesRw i deps j ≡ seesRw i deps j
+  -- it applies the deletes that it sees, as it sees nothing later
+  pub applies-sees : appliesRw i deps j ≡ seesRw i deps j
   unfolding appliesRw
-  applies-before h = rw (lt-ltb j i h) (and-true (seesRw i deps j))
+  applies-sees = split (leb j i)
+    (λ t. rw t (and-true (seesRw i deps j)))
+    (λ f. rw f (and-false (seesRw i deps j) ∙ sym (sees-later (leb-false j i f))))
 
-  pub applies-later : i ≤ j → appliesRw i deps j ≡ false
-  unfolding appliesRw
-  applies-later h = rw (le-ltb j i h) (and-false (seesRw i deps j))
+-- and so does a page
+pub applies-all : (r : Reader) (m : Manager) → appliesOf r m ≡ seesOf r m
+unfolding appliesOf seesOf
+applies-all (Rw i) m = λ x k. applies-sees i (depsAt i m) k x
+applies-all (Ro t) m = refl

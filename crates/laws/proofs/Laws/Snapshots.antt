@@ -1,24 +1,23 @@
 -- The snapshot of an open reader in the ledger: it stays as others open and close, and of the open
 -- transactions only itself is in it.
--- In order: a reader's marks, Keeps, what each call keeps, the marks of an open
--- transaction.
+-- In order: Keeps, what each call keeps, the marks of an open transaction.
 -- Elsewhere: what it is shown then (Laws/Stays.antt). Definitions: rules/specs/Ledger.antt.
 -- Assumes nothing.
 use mathlib.Core.Path.{_≡_, refl, sym, _∙_, ap}
-use mathlib.Core.Bool.{Bool, true, false, not, _&&_}
+use mathlib.Core.Bool.{true, false}
 use mathlib.Core.List.{List, _∷_}
 use Prim.Native.Nat.{ℕ, _<_}
 use native.Mathlib.Omega.{arith}
-use lib.Dec.{ltb, eqb}
-use borrow.Author.Tests.{ltb-true, eqb-false, ne-eqb, lt-leb}
+use lib.Dec.{eqb}
+use borrow.Author.Tests.{eqb-false, ne-eqb, lt-leb}
 use Rattle.lists.specs.Lists.{anyOf, firstOf, elem}
-use Rattle.lists.proofs.Laws.Bools.{split, and-false, or-right}
+use Rattle.lists.proofs.Laws.Bools.{and-false, or-right}
 use Rattle.lists.proofs.Laws.Filter.{first-in, anyOf-without, firstOf-without}
 use Rattle.rules.specs.Manager.{noRo, hasOpen, hasTicket, writersOf, readersOf}
 use Rattle.rules.specs.Ledger.{Line, Snapshot, Ledger, named, without, noSnapshot, marksOf, hasOpenRw}
 use Rattle.rules.specs.Ledger.{withLines}
 use Rattle.rules.specs.Ledger.{withBegun, withOpened, withOpenRw, withOpenRo}
-use Rattle.rules.specs.Promises.{isLoad, isPage}
+use Rattle.rules.specs.Promises.{isLoad, isPage, marksIn}
 use Rattle.rules.specs.Claim.{isOpenIn}
 use Rattle.rules.specs.Manager.{Manager}
 use Rattle.rules.specs.declared.Reader.{Reader}
@@ -29,16 +28,6 @@ use Rattle.laws.proofs.Laws.Sees.{sees-own, sees-later}
 use Rattle.laws.proofs.Laws.Tracks.{alive, depsIn, epochIn, Tracks, marksOf-rest, tracks-writer}
 use Rattle.laws.proofs.Laws.TracksClose.{named-keyed, unseen}
 use Rattle.laws.proofs.Laws.TracksReadOnly.{ticket-below}
-
--- ---- a reader's marks, and the deletes that it applies by them
-
-abbrev pub marksIn : Reader → Ledger → List ℕ
-marksIn (Rw i) g = marksOf i (g .writers)
-marksIn (Ro t) g = marksOf t (g .readers)
-
-abbrev pub appliesIn : Reader → List ℕ → ℕ → Bool
-appliesIn (Rw i) ms k = elem k ms && not (eqb k i)
-appliesIn (Ro t) ms k = elem k ms
 
 -- ---- snapshots that stay
 
@@ -119,19 +108,10 @@ module _ {m : Manager} {g : Ledger} (T : Tracks m g) where
         let b = hasOpen-range m (T .ok) j oj in
         T .readers .marks t ot j ∙ rw (lt-leb j (epochIn t (readersOf m)) (omega arith)) (and-false (alive g j))
 
-    -- and its delete nobody applies, itself included
-    pub unapplied : (r : Reader) → isOpenIn r g ≡ true → appliesIn r (marksIn r g) j ≡ false
-    unapplied (Rw i) o = split (eqb j i)
-      (λ t. rw t (and-false (elem j (marksOf i (g .writers)))))
-      (λ f. rw (other-mark (Rw i) o f))
-    unapplied (Ro t) o = other-mark (Ro t) o refl
-
-    -- its own it sees
+    -- in its own it is the last
     pub own-mark : elem j (marksOf j (g .writers)) ≡ true
     own-mark = T .writers .marks j oj j ∙ rw (tracks-writer T j oj .0, sees-own j (depsIn j (writersOf m)) j refl)
 
-    pub own-later : (k : ℕ) → appliesIn (Rw j) (marksOf j (g .writers)) k && ltb j k ≡ false
-    own-later k = split (ltb j k)
-      (λ t. rw (T .writers .marks j oj k, sees-later j (depsIn j (writersOf m)) k (ltb-true j k t),
-        and-false (alive g k)))
-      (λ f. rw f (and-false (appliesIn (Rw j) (marksOf j (g .writers)) k)))
+    pub own-later : (k : ℕ) → j < k → elem k (marksOf j (g .writers)) ≡ false
+    own-later k l = T .writers .marks j oj k
+        ∙ rw (sees-later j (depsIn j (writersOf m)) k l) (and-false (alive g k))

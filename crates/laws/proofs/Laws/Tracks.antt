@@ -12,24 +12,23 @@ use mathlib.Core.Logic.{_⊎_, inl, inr}
 use mathlib.Core.List.{List, _∷_, List·Memᴰ as In, Memᴰ·map, Memᴰ·of-map}
 use Prim.Native.Nat.{ℕ, _-_, _≤_, _<_}
 use native.Mathlib.Omega.{arith}
-use lib.Dec.{ltb, leb, eqb}
+use lib.Dec.{ltb, leb}
 use borrow.Author.Tests.{ltb-true, leb-true, eqb-true, lt-ltb, le-ltb, eq-eqb, ne-eqb, not-true}
 use Rattle.lists.specs.Lists.{keepIf, anyOf, firstOf, elem}
-use Rattle.lists.proofs.Laws.Bools.{split, and-left, and-right, and-assoc, or-right, or-cases}
+use Rattle.lists.proofs.Laws.Bools.{split, and-left, and-right, or-right, or-cases}
 use Rattle.lists.proofs.Laws.Filter.{any-in, any-of, none-in, none-of, in-keepIf, keepIf-in, first-in}
 use Rattle.lists.proofs.Laws.Filter.{in-elem, elem-in}
 use Rattle.lists.proofs.Laws.Order.{foldr-max-base, foldr-max-in, foldr-max-below, leastOf-in, leastOf-member}
 use Rattle.lists.proofs.Laws.Tests.{no-proof, and-mask}
-use Rattle.rules.specs.Manager.{Writer, noWriter, noRo, isOpen, opens, hasOpen, depsAt, hasTicket}
+use Rattle.rules.specs.Manager.{Writer, noWriter, noRo, isOpen, opens, hasOpen, hasTicket}
 use Rattle.rules.specs.Manager.{writersOf}
 use Rattle.rules.specs.Manager.{readersOf}
-use Rattle.rules.specs.Sees.{seesRw, appliesRw}
+use Rattle.rules.specs.Sees.{seesRw}
 use Rattle.rules.specs.Calls.{isReader, seesOf, appliesOf}
 use Rattle.rules.specs.Ledger.{Snapshot, Ledger, noSnapshot, named, hasOpenRw, latest, marksOf, linesAt}
-use Rattle.rules.specs.Ledger.{shows}
-use Rattle.rules.specs.Ledger.{writerShows, readerShows}
+use Rattle.rules.specs.Ledger.{showsBy, writerShows, readerShows}
 use Rattle.rules.specs.Histories.{oldest, HoldsBack}
-use Rattle.rules.specs.Promises.{ledgerSees, ledgerApplies}
+use Rattle.rules.specs.Promises.{marksIn}
 use Rattle.rules.specs.Claim.{isOpenIn, shownBy}
 use Rattle.rules.specs.WellFormed.{managerOk}
 use Rattle.rules.specs.declared.RoTxn.{RoTxn}
@@ -38,6 +37,7 @@ use Rattle.rules.specs.declared.Reader.{Reader}
 use Rattle.rules.specs.declared.Reader.the-variants.{Rw, Ro}
 use Rattle.laws.proofs.Laws.Manager.{epochs, opensBelow, manager-facts, status-waits}
 use Rattle.laws.proofs.Laws.Epochs.{known, hasOpen-range}
+use Rattle.laws.proofs.Laws.Sees.{applies-all}
 
 -- ---- what the ledger says of a reader
 
@@ -48,12 +48,11 @@ aliveIn cs ws j = elem j cs || anyOf (named j) ws
 abbrev pub alive : Ledger → ℕ → Bool
 alive g j = elem j (g .committed) || hasOpenRw j g
 
--- these are the tests by which it shows
-pub shownBy-tests : (r : Reader) (p : ℕ) (g : Ledger)
-    → shownBy r p g ≡ shows (ledgerSees r g) (ledgerApplies r g) (linesAt p g)
+-- by these marks it shows
+pub shownBy-marks : (r : Reader) (p : ℕ) (g : Ledger) → shownBy r p g ≡ showsBy (marksIn r g) (linesAt p g)
 unfolding writerShows readerShows
-shownBy-tests (Rw i) p g = refl
-shownBy-tests (Ro t) p g = refl
+shownBy-marks (Rw i) p g = refl
+shownBy-marks (Ro t) p g = refl
 
 -- ---- Tracks
 
@@ -175,24 +174,14 @@ module _ {m : Manager} {g : Ledger} (T : Tracks m g) where
 -- ---- what a reader sees
 
 pub tracks-sees : {m : Manager} {g : Ledger} → Tracks m g → (r : Reader) → isReader r m ≡ true → (j : ℕ)
-    → alive g j && seesOf r m j ≡ ledgerSees r g j
+    → alive g j && seesOf r m j ≡ elem j (marksIn r g)
 unfolding seesOf
 tracks-sees T (Rw i) o j = sym (T .writers .marks i o j)
 tracks-sees T (Ro t) o j = sym (T .readers .marks t o j)
 
--- to see and to apply differ at the transaction itself only
-applies-same : (i : ℕ) (ds : List ℕ) (k : ℕ) → appliesRw i ds k ≡ seesRw i ds k && not (eqb k i)
-unfolding appliesRw seesRw
-applies-same i ds k = split (eqb k i)
-  (λ t. let e = eqb-true k i t in rw (t, le-ltb k i (omega arith)))
-  (λ f. rw f (split (ltb k i) (λ t. rw t) (λ n. rw n)))
-
 pub tracks-applies : {m : Manager} {g : Ledger} → Tracks m g → (r : Reader) → isReader r m ≡ true → (k : ℕ)
-    → alive g k && appliesOf r m k ≡ ledgerApplies r g k
-unfolding appliesOf
-tracks-applies {m} {g} T (Rw i) o k = rw (T .writers .marks i o k, applies-same i (depsAt i m) k)
-    (sym (and-assoc (alive g k) (seesRw i (depsAt i m) k) (not (eqb k i))))
-tracks-applies T (Ro t) o k = sym (T .readers .marks t o k)
+    → alive g k && appliesOf r m k ≡ elem k (marksIn r g)
+tracks-applies {m} T r o k = rw (applies-all r m) (tracks-sees T r o k)
 
 -- ---- epochs that come or go above LCE change no read-only snapshot
 

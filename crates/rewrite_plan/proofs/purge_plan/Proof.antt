@@ -12,7 +12,7 @@ use Rattle.rules.specs.Top.{Top, topDelete, covers}
 use Rattle.lent.specs.Entries.{none}
 use Rattle.area.proofs.Laws.Area.{area-length, entries-used}
 use Rattle.rules.specs.Bare.{bareSpan}
-use Rattle.visible.specs.View.{appliesView}
+use Rattle.visible.specs.View.{seesView}
 use Rattle.visible.specs.Passes.{asTop}
 use Rattle.rewrite_plan.specs.Plan.{spansIn, purgeEpoch, purgeEpochs}
 use Rattle.rewrite_plan.proofs.Laws.Plan.{length-purge, plan-next, plan-all, purge-here}
@@ -28,7 +28,7 @@ abbrev μ-loop : tie.MeasureT-loop
 μ-loop l a n top plan₀ k₀ plan k = n - k
 
 loop-holds : tie.Need-loop-holds Inv-loop μ-loop
-unfolding appliesView
+unfolding seesView
 loop-holds c = let b = c .before .before in let a = b .before .args .t1 in
     let long = area-length a _ (b .before .good .0) in
     let used = entries-used a (b .in-use .result) long (b .in-use .ensures) in

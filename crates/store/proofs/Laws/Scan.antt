@@ -28,10 +28,11 @@ use Rattle.rules.specs.declared.State.{State}
 use Rattle.laws.proofs.Laws.Bitmap.{length-packed}
 use Rattle.laws.proofs.Laws.Answers.{refused}
 use Rattle.laws.proofs.Laws.Hides.{length-flags}
+use Rattle.laws.proofs.Laws.Sees.{applies-all}
 use Rattle.laws.proofs.Laws.SpansTest.{EntriesOk, entries-ok}
 use Rattle.laws.proofs.Laws.WellFormed.{StoreOk, store-facts}
 use Rattle.visible.specs.declared.View.{View}
-use Rattle.visible.specs.View.{seesView, appliesView}
+use Rattle.visible.specs.View.{seesView}
 use Rattle.visible.specs.Scan.{scanOk, scanned, bitmapScanned}
 use Rattle.visible.proofs.Laws.Scan.{spanFlags, scan-ok, scanned-spans, bitmap-spans}
 use Rattle.area.specs.Area.{entriesIn, areaAt}
@@ -41,7 +42,7 @@ use Rattle.admit.specs.Admit.{partitionOf}
 use Rattle.lists.proofs.Laws.Parts.{take-pad}
 use Rattle.rules.specs.Limits.{depsMax}
 use Rattle.rules.specs.Manager.{depsAt, managerIn}
-use Rattle.rules.specs.Sees.{seesRw, appliesRw}
+use Rattle.rules.specs.Sees.{seesRw}
 use Rattle.plan_scan.specs.Scan.{noBits, refusedLook, lookAt, rwView, roView, lookBy, rwLook, roLook, copied}
 use Rattle.plan_scan.specs.declared.Look.{Look}
 use Rattle.store.specs.Kept.{storeOf, Showed}
@@ -95,11 +96,10 @@ module _ (s : State) (es : List Entry) (rs : List ℕ) (ok : StoreOk (storeOf s 
   pub words : length (rowsAt p (storeOf s rs es)) ≡ partitionOf p s .rows
   words = let part = ok .partition p h in ap length (sym (part .words-are)) ∙ sym (part .row-count)
 
-  module _ (r : Reader) (v : View) (sees : seesView v ≡ seesOf r (managerIn s))
-      (applies : appliesView v ≡ appliesOf r (managerIn s)) where
+  module _ (r : Reader) (v : View) (sees : seesView v ≡ seesOf r (managerIn s)) where
     same-flags : spanFlags v (areaAt es (partitionOf p s)) (rowsAt p (storeOf s rs es)) ≡ flagsAt r p (storeOf s rs es)
     unfolding flagsAt spansAt
-    same-flags = rw (sees, applies, table-entries)
+    same-flags = rw (sees, applies-all r (managerIn s), table-entries)
 
     flags-rows : length (flagsAt r p (storeOf s rs es)) ≡ partitionOf p s .rows
     unfolding flagsAt
@@ -133,17 +133,17 @@ module _ (s : State) (es : List Entry) (rs : List ℕ) (ok : StoreOk (storeOf s 
             (ltb-false (length lent) n f), refl))
 
 look-left : (s : State) → length (s .partitions .at) ≡ partitionsMax → (es : List Entry) (rs lent : List ℕ) (p : ℕ)
-    (r : Reader) (v : View) → seesView v ≡ seesOf r (managerIn s) → appliesView v ≡ appliesOf r (managerIn s)
+    (r : Reader) (v : View) → seesView v ≡ seesOf r (managerIn s)
     → Carried lent (storeOf s rs es) (step (scan r p lent) (storeOf s rs es))
       (lookBy (isReader r (managerIn s)) v s (restIn s es rs) (loadedArea es (s .partitions) p) (length lent) p)
 unfolding step scanAnswer
-look-left s n es rs lent p r v sees applies = let st = storeOf s rs es in let flags = flagsAt r p st in
+look-left s n es rs lent p r v sees = let st = storeOf s rs es in let flags = flagsAt r p st in
     rw (sound-is s es rs) (split (wellFormed st)
   (λ t. let ok = store-facts st n t in rw (t, loaded-area es (ok .entries-length) (s .partitions) p)
     (split (leb partitionsMax p)
     (λ u. rw u (refused-left UnknownPartition s es rs lent flags))
     (λ u. split (isReader r (managerIn s))
-      (λ o. rw (u, o) (scan-room s es rs ok p (leb-false partitionsMax p u) r v sees applies lent))
+      (λ o. rw (u, o) (scan-room s es rs ok p (leb-false partitionsMax p u) r v sees lent))
       (λ o. rw (u, o) (refused-left NotOpen s es rs lent flags)))))
   (λ f. rw f (refused-left Unsound s es rs lent flags)))
 
@@ -153,11 +153,11 @@ module _ (s : State) (n : length (s .partitions .at) ≡ partitionsMax) (es : Li
     where
   pub rw-left : Carried lent (storeOf s rs es) (step (scan (Rw i) p lent) (storeOf s rs es))
       (rwLook s (restIn s es rs) (loadedArea es (s .partitions) p) (length lent) i p)
-  unfolding rwLook seesOf appliesOf seesView appliesView
+  unfolding rwLook seesOf seesView
   rw-left = let m = managerIn s in let e = take-pad depsMax 0 (depsAt i m) in
-      look-left s n es rs lent p (Rw i) (rwView i m) (ap (seesRw i) e) (ap (appliesRw i) e)
+      look-left s n es rs lent p (Rw i) (rwView i m) (ap (seesRw i) e)
 
   pub ro-left : Carried lent (storeOf s rs es) (step (scan (Ro i) p lent) (storeOf s rs es))
       (roLook s (restIn s es rs) (loadedArea es (s .partitions) p) (length lent) i p)
-  unfolding roLook seesOf appliesOf seesView appliesView
-  ro-left = look-left s n es rs lent p (Ro i) (roView i (managerIn s)) refl refl
+  unfolding roLook seesOf seesView
+  ro-left = look-left s n es rs lent p (Ro i) (roView i (managerIn s)) refl

@@ -16,7 +16,7 @@ use Rattle.rules.specs.Bitmap.{bytesFor, bitmapAfter}
 use Rattle.rules.specs.WellFormed.{endsOk}
 use Rattle.visible.specs.declared.View.{View}
 use Rattle.area.specs.declared.Area.{Area}
-use Rattle.visible.specs.View.{seesView, appliesView}
+use Rattle.visible.specs.View.{seesView}
 use Rattle.area.specs.Area.{entriesIn}
 use Rattle.visible.proofs.Laws.Flags.{flags-entries}
 use Rattle.visible.specs.Scan.{scanOk, tableFlags, scanned, bitmapScanned}
@@ -30,13 +30,13 @@ module _ (t : Area) (rows : ℕ) (lent : List ℕ) where
 -- ---- over a partition's spans, whatever its words
 
 abbrev pub spanFlags : View → Area → List ℕ → List Bool
-spanFlags v t ws = flags (seesView v) (appliesView v) (spans 0 (entriesIn t) ws)
+spanFlags v t ws = flags (seesView v) (seesView v) (spans 0 (entriesIn t) ws)
 
 module _ (v : View) (t : Area) (rows : ℕ) (lent ws : List ℕ)
     (ok : scanOk t rows lent ≡ true) (l : length ws ≡ rows) where
   same-flags : tableFlags v t ≡ spanFlags v t ws
   unfolding scanOk
-  same-flags = flags-entries (seesView v) (appliesView v) rows (entriesIn t) (and-left _ _ ok) ws l
+  same-flags = flags-entries (seesView v) (seesView v) rows (entriesIn t) (and-left _ _ ok) ws l
 
   pub scanned-spans : scanned v t rows lent ≡ record { ones = ones (spanFlags v t ws) }
   unfolding scanned

@@ -7,7 +7,7 @@ use native.Mathlib.Omega.{arith}
 use lib.ListN.{length, take, drop, getD}
 use Rattle.rules.specs.Limits.{entriesMax}
 use Rattle.rules.specs.Top.{topFrom, topDelete}
-use Rattle.visible.specs.View.{appliesView}
+use Rattle.visible.specs.View.{seesView}
 use Rattle.rules.specs.Bare.{bare}
 use Rattle.lent.specs.Entries.{none}
 use Rattle.visible.specs.Passes.{asTop}
@@ -20,8 +20,8 @@ use Rattle.visible.proofs.delete.find_top.Tie as tie
 
 abbrev Inv-loop : tie.InvT-loop
 Inv-loop v n t m top₀ i₀ top i = (i ≤ m) × (m ≡ min n entriesMax) × (length (t .at) ≡ entriesMax)
-    × (topDelete (appliesView v) (bare 0 (take n (t .at)))
-    ≡ topFrom (appliesView v) i (asTop top) (bare 0 (drop i (take n (t .at)))))
+    × (topDelete (seesView v) (bare 0 (take n (t .at)))
+    ≡ topFrom (seesView v) i (asTop top) (bare 0 (drop i (take n (t .at)))))
 
 abbrev μ-loop : tie.MeasureT-loop
 μ-loop v n t m top₀ i₀ top i = m - i
@@ -34,7 +34,7 @@ loop-again c = let l = c .before .before .before .loop in let a = c .before .bef
     let at = a .t2 .at in let u = l .inv .1 in
     (search needs, l .inv .1, l .inv .2, rw (c .top-step .ensures) (l .inv .3
       ∙ rw (used-next at (a .n) entriesMax (l .inv .2) none (l .i) (omega arith))
-        (top-next (appliesView (a .v)) (l .i) (asTop (l .top)) (getD at (l .i) none) 0 0
+        (top-next (seesView (a .v)) (l .i) (asTop (l .top)) (getD at (l .i) none) 0 0
           (drop (l .i + 1) (take (a .n) at)))))
 
 returns : tie.Need-returns Inv-loop μ-loop

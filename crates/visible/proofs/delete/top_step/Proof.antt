@@ -15,10 +15,10 @@ returns-2 : tie.Need-returns-2
 returns-2 c = rw (lt-leb _ _ (c .if2 .taken), and-false)
 
 returns-3 : tie.Need-returns-3
-returns-3 c = let r = c .before .applies in rw (sym (r .ensures) ∙ not-true (r .result) (c .if3 .taken), and-false)
+returns-3 c = let r = c .before .sees in rw (sym (r .ensures) ∙ not-true (r .result) (c .if3 .taken), and-false)
 
 returns-4 : tie.Need-returns-4
-returns-4 c = let k = c .before .before in let r = c .before .applies in
+returns-4 c = let k = c .before .before in let r = c .before .sees in
     rw (add-one, eq-eqb _ _ (k .before .before .before .if1 .left), le-leb _ _ (k .if2 .left),
       sym (r .ensures) ∙ not-false (r .result) (c .if3 .left))
 

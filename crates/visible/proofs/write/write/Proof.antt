@@ -8,7 +8,7 @@ use lib.ListN.{take}
 use denote.Ref.{now}
 use Rattle.rules.specs.Limits.{rowsMax}
 use Rattle.rules.specs.Bitmap.{bytesFor}
-use Rattle.visible.specs.View.{seesView, appliesView}
+use Rattle.visible.specs.View.{seesView}
 use Rattle.visible.specs.Passes.{flagsUnder}
 use Rattle.visible.specs.Scan.{viewFlags}
 use Rattle.visible.proofs.Laws.Pack.{drop-false, bitmap-pad}
@@ -27,8 +27,8 @@ returns : tie.Need-returns
 returns c = let b = c .before .before .before .before in let r = b .before .before .before in
     let f = r .before .before in let s = f .before .before in let a = s .args in let es = take (a .n) (a .t .at) in
     let same : flagsUnder (a .v) (f .find-top .result) es ≡ viewFlags (a .v) es =
-      rw (f .find-top .ensures) (sym (flagsOf-top (seesView (a .v)) (appliesView (a .v)) es)) in
-    let all = length-flagsOf (seesView (a .v)) (appliesView (a .v)) (a .rows) es (s .pre .2) in
+      rw (f .find-top .ensures) (sym (flagsOf-top (seesView (a .v)) (seesView (a .v)) es)) in
+    let all = length-flagsOf (seesView (a .v)) (seesView (a .v)) (a .rows) es (s .pre .2) in
     (rw (r .show-front .ensures .0, same),
      rw (c .before .before .pack .ensures, b .bytes-for .ensures, r .show-front .ensures .1, same,
          drop-false (a .rows) rowsMax)
