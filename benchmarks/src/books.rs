@@ -21,11 +21,10 @@ struct Load {
     written: Vec<Written>,
 }
 
-/// What a reader sees: the epochs up to `last` but those in `deps`, and of their clearings those up to `clearings`.
+/// What a reader sees: the epochs up to `last` but those in `deps`. Their clearings are those that it applies.
 #[derive(Clone, Copy, Debug)]
 pub struct View<'a> {
     pub last: u64,
-    pub clearings: u64,
     pub deps: &'a [u64],
 }
 
@@ -121,11 +120,11 @@ impl Books {
         match reader {
             Reader::Rw(epoch) => {
                 let load = &self.loads[self.place_of(epoch)];
-                View { last: epoch, clearings: epoch - 1, deps: &load.deps }
+                View { last: epoch, deps: &load.deps }
             }
             Reader::Ro(ticket) => {
                 let page = self.pages.iter().find(|page| page.0 == ticket).expect("an open page");
-                View { last: page.1, clearings: page.1, deps: &[] }
+                View { last: page.1, deps: &[] }
             }
         }
     }

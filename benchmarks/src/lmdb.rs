@@ -343,7 +343,7 @@ impl Rows {
                 let mut more = found(mdb_cursor_get(cursor, &mut key, &mut data, Place::Set));
                 while more && found(mdb_cursor_get(cursor, &mut key, &mut data, place)) {
                     let (epoch, sequence, _) = fields(data.slice());
-                    if epoch <= view.clearings && !view.deps.contains(&epoch) {
+                    if view.sees(epoch) {
                         floor = (epoch, sequence);
                         more = false;
                     }
@@ -450,7 +450,7 @@ impl Lots for Rows {
     }
 
     fn purge(&mut self, lot: usize, lse: u64) {
-        let floor = self.floor(lot, &View { last: lse, clearings: lse, deps: &[] });
+        let floor = self.floor(lot, &View { last: lse, deps: &[] });
         if floor == (0, 0) {
             return;
         }
@@ -544,7 +544,7 @@ impl Batches {
     fn floor(&mut self, lot: usize, view: &View) -> Floor {
         let mut floor = (0, 0);
         if self.lmdb.clearings[lot] > 0 {
-            let last = CLEARING | key(lot, view.clearings, LAST);
+            let last = CLEARING | key(lot, view.last, LAST);
             self.each(CLEARING | key(lot, 0, 0), last, |key, _| {
                 let found = parts(key);
                 if !view.deps.contains(&found.0) {
@@ -627,7 +627,7 @@ impl Lots for Batches {
     }
 
     fn purge(&mut self, lot: usize, lse: u64) {
-        let floor = self.floor(lot, &View { last: lse, clearings: lse, deps: &[] });
+        let floor = self.floor(lot, &View { last: lse, deps: &[] });
         let (mut spans, mut old) = (Vec::new(), Vec::new());
         self.each(key(lot, 0, 0), key(lot + 1, 0, 0) - 1, |key, rows| {
             let (epoch, sequence) = parts(key);

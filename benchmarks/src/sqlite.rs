@@ -309,7 +309,7 @@ impl Sqlite {
     fn floor(&mut self, lot: usize, view: &View) -> Floor {
         let mut floor = (0, 0);
         if self.clearings[lot] > 0 {
-            self.floor.each(&[key(lot, 0, 0), key(lot, view.clearings, LAST)], |answered| {
+            self.floor.each(&[key(lot, 0, 0), key(lot, view.last, LAST)], |answered| {
                 let found = parts(answered.word(0));
                 if view.deps.contains(&found.0) {
                     return true;
@@ -336,7 +336,7 @@ impl Sqlite {
 
 /// What a purge at `lse` applies.
 fn at(lse: u64) -> View<'static> {
-    View { last: lse, clearings: lse, deps: &[] }
+    View { last: lse, deps: &[] }
 }
 
 /// The keys of what a reader is shown, if it has no deps.

@@ -5,6 +5,7 @@
 pub mod prepared;
 
 use model::call::{Answer, Call};
+use model::check::own_clearing;
 use model::clock::Clock;
 use model::partition::{Entry, Partition, Partitions};
 use model::refusal::Refusal;
@@ -155,6 +156,12 @@ pub fn live_part<'a>(answer: &Result<Answer, Refusal>, store: &'a Store) -> &'a 
         }
         _ => &[],
     }
+}
+
+/// Whether an accepted call is a scan by a load, and a clearing of that load hides rows from it.
+pub fn obeys_own_clearing(one: &Call, store: &Store) -> bool {
+    let Call::Scan { reader, partition, .. } = one else { return false };
+    own_clearing(store, *reader, *partition).is_some_and(|own| own.hides_own || own.hides_earlier)
 }
 
 /// The number and the two values that the model's answer has.

@@ -1,4 +1,4 @@
-//! The fixed cases as functions, told in words where they fail (01, "A session" and on; 02, (i)).
+//! The fixed cases as functions, told in words where they fail (01, "A session" and on; 02, (i), (ii)).
 
 use crate::call::{Answer, Call};
 use crate::check::{Checked, Checks, Outcome};
@@ -12,7 +12,7 @@ pub type Told = Result<(), String>;
 pub type Case = (&'static str, fn() -> Told);
 
 /// All fixed cases by name.
-pub const CASES: [Case; 26] = [
+pub const CASES: [Case; 29] = [
     ("worked session", worked_session),
     ("cases 1 to 4", cases_1_to_4),
     ("cases 5 to 8", cases_5_to_8),
@@ -31,6 +31,9 @@ pub const CASES: [Case; 26] = [
     ("wrong: old ends after rollback", wrong_ends),
     ("page applies the last clearing", page_applies_last_clearing),
     ("own clearing", own_clearing),
+    ("own clearing: others", own_clearing_others),
+    ("own clearing: rolled back", own_clearing_rolled_back),
+    ("own clearing: earlier row after it", own_clearing_earlier_row),
     ("rollback moves LCE", rollback_moves_lce),
     ("waiting load", waiting_load),
     ("oldest open load", oldest_open_load),
@@ -82,7 +85,7 @@ fn worked_session() -> Told {
     lines(
         "B; A 1 0 10 11; B; A 2 0 20; C 1; R 0; D 2 0; S l2 0; C 2; S p1 0; R 0; S p2 0; L 2; E 1; \
          L 0; P 0; A 2 0 5",
-        "B 0 1; A 0 2; B 0 2; A 0 3; C 0 1 2; R 0 1; D 0 3; S 0 20; C 0 2 0; S 0 10 11; R 0 2; S 0; L 10; \
+        "B 0 1; A 0 2; B 0 2; A 0 3; C 0 1 2; R 0 1; D 0 3; S 0; C 0 2 0; S 0 10 11; R 0 2; S 0; L 10; \
          E 0 1; L 0 2; P 0 1; A 2",
     )
 }
@@ -293,10 +296,11 @@ fn wrong_lce() -> Told {
 }
 
 fn wrong_ends() -> Told {
-    let input = "B; B; A 1 0 1 2; A 2 0 3; A 1 0 4; D 2 0; A 2 0 5; D 1 0; X 2; S l1 0; A 1 0 6";
-    let output = "B 0 1; B 0 2; A 0 2; A 0 3; A 0 4; D 0 4; A 0 5; D 0 6; X 0 0 1; S 0 1 2 4; A 0 4";
+    let input = "B; B; B; A 1 0 1 2; A 2 0 3; A 1 0 4; D 2 0; A 2 0 5; D 3 0; X 2; S l1 0; A 1 0 6; S l1 0";
+    let output = "B 0 1; B 0 2; B 0 3; A 0 2; A 0 3; A 0 4; D 0 4; A 0 5; D 0 6; X 0 0 1; S 0 1 2 4; A 0 4; \
+                  S 0 1 2 4 6";
     let store = lines_from(Store::new(1), 1, input, output)?;
-    same("entries", entries_of_lot(&store, 0), vec![(1, 3, ROWS), (1, 3, CLEARING), (1, 4, ROWS)])
+    same("entries", entries_of_lot(&store, 0), vec![(1, 3, ROWS), (3, 3, CLEARING), (1, 4, ROWS)])
 }
 
 fn page_applies_last_clearing() -> Told {
@@ -304,10 +308,72 @@ fn page_applies_last_clearing() -> Told {
 }
 
 fn own_clearing() -> Told {
+    lines("B; A 1 0 1; D 1 0; A 1 0 2; S l1 0", "B 0 1; A 0 1; D 0 2; A 0 2; S 0 2")?;
+    lines(
+        "B; A 1 0 5; C 1; B; D 2 0; S l2 0; A 2 0 6; S l2 0",
+        "B 0 1; A 0 1; C 0 1 0; B 0 2; D 0 2; S 0; A 0 2; S 0 6",
+    )?;
     lines(
         "B; A 1 0 5; C 1; B; A 2 0 6; D 2 0; A 2 0 7; S l2 0; C 2; B; S l3 0",
-        "B 0 1; A 0 1; C 0 1 0; B 0 2; A 0 2; D 0 3; A 0 3; S 0 5 6 7; C 0 2 0; B 0 3; S 0 7",
+        "B 0 1; A 0 1; C 0 1 0; B 0 2; A 0 2; D 0 3; A 0 3; S 0 7; C 0 2 0; B 0 3; S 0 7",
+    )?;
+    // Of two clearings the later one counts, with rows between them or none.
+    lines(
+        "B; A 1 0 1; D 1 0; A 1 0 2 3; S l1 0; D 1 0; S l1 0; D 1 0; A 1 0 4; S l1 0",
+        "B 0 1; A 0 1; D 0 2; A 0 3; S 0 2 3; D 0 4; S 0; D 0 5; A 0 4; S 0 4",
+    )?;
+    // Other lots stay.
+    lines(
+        "B; A 1 0 1; A 1 7 2; C 1; B; A 2 0 3; A 2 7 4; D 2 0; S l2 0; S l2 7; D 2 7; S l2 7",
+        "B 0 1; A 0 1; A 0 1; C 0 1 0; B 0 2; A 0 2; A 0 2; D 0 3; S 0; S 0 2 4; D 0 3; S 0",
     )
+}
+
+fn own_clearing_others() -> Told {
+    // A load that begins while the clearing load is open, and a page opened meanwhile, never see the clearing.
+    lines(
+        "B; A 1 0 5; C 1; B; B; R 0; D 2 0; A 2 0 6; B; R 0; S l2 0; S l3 0; S l4 0; S p1 0; S p2 0; C 2; \
+         S l3 0; S l4 0; S p1 0; S p2 0; B; R 0; S l5 0; S p3 0",
+        "B 0 1; A 0 1; C 0 1 0; B 0 2; B 0 3; R 0 1; D 0 2; A 0 2; B 0 4; R 0 2; S 0 6; S 0 5; S 0 5; S 0 5; \
+         S 0 5; C 0 2 3; S 0 5; S 0 5; S 0 5; S 0 5; B 0 5; R 0 3; S 0 6; S 0 6",
+    )?;
+    // Nor does the clearing load see another's.
+    lines(
+        "B; A 1 0 5; C 1; B; B; D 2 0; A 3 0 6; S l3 0; D 3 0; S l2 0; S l3 0; A 2 0 7; A 3 0 8; S l2 0; \
+         S l3 0; C 2; S l3 0",
+        "B 0 1; A 0 1; C 0 1 0; B 0 2; B 0 3; D 0 2; A 0 2; S 0 5 6; D 0 4; S 0; S 0; A 0 3; A 0 4; S 0 7; \
+         S 0 8; C 0 2 3; S 0 8",
+    )
+}
+
+fn own_clearing_rolled_back() -> Told {
+    lines(
+        "B; A 1 0 5; C 1; B; B; R 0; D 2 0; A 2 0 6; S l2 0; X 2; S l2 0; S l3 0; S p1 0; B; R 0; S l4 0; \
+         S p2 0",
+        "B 0 1; A 0 1; C 0 1 0; B 0 2; B 0 3; R 0 1; D 0 2; A 0 2; S 0 6; X 0 1 3; S 2; S 0 5; S 0 5; B 0 4; \
+         R 0 2; S 0 5; S 0 5",
+    )
+}
+
+fn own_clearing_earlier_row() -> Told {
+    // In a history only an earlier load that the clearing load does not see can append after its clearing.
+    lines(
+        "B; B; D 2 0; A 1 0 5; A 2 0 6; S l1 0; S l2 0; C 1; S l2 0; C 2; R 1; R 2; S p1 0; S p2 0",
+        "B 0 1; B 0 2; D 0 1; A 0 1; A 0 2; S 0 5; S 0 6; C 0 1 2; S 0 6; C 0 2 0; R 0 1; R 0 2; S 0 5; S 0 6",
+    )?;
+    // In a store that no history made it may be one that it sees: load 2 has no deps here.
+    let mut store = Store::new(1);
+    store.manager.clock.ec = 3;
+    store.manager.clock.lce = 1;
+    store.manager.rw.at[0].epoch = 2;
+    store.manager.rw.count = 1;
+    store.manager.partitions.at[0].entries = 3;
+    store.manager.partitions.at[0].rows = 2;
+    let entry = |epoch, end, mark| Entry { epoch, end, mark };
+    store.entries[..3].copy_from_slice(&[entry(2, 0, CLEARING), entry(1, 1, ROWS), entry(2, 2, ROWS)]);
+    let scan = Call::Scan { reader: Reader::Rw(2), partition: 0, lent: 1 };
+    let outcome = Checked::without_ledger(store).call(&scan)?;
+    same("bits", outcome.bitmap, vec![0b10])
 }
 
 fn rollback_moves_lce() -> Told {
@@ -392,14 +458,14 @@ fn gap() -> Told {
     for (line, expected) in [
         ("S p5 0", "S 0"),
         ("S p6 0", "S 0"),
-        ("S l3 0", "S 0 34 35"),
+        ("S l3 0", "S 0"),
         ("E 5", "E 0 1"),
         ("P 0", "P 0 0"),
         ("L 1", "L 0 1"),
         ("P 0", "P 0 0"),
         ("L 0", "L 0 2"),
         ("P 0", "P 0 1"),
-        ("S l3 0", "S 0 34 35"),
+        ("S l3 0", "S 0"),
         ("X 3", "X 0 2 0"),
         ("S p6 0", "S 0"),
     ] {

@@ -1,15 +1,15 @@
-//! Histories run with every check after every call, and what they covered (01, "The ledger of demand 3").
+//! Histories run with every check after every call, and what they covered (01, "The ledger of demand 3"; 02).
 
 use crate::call::{number_of, Answer, Call, BITMAP_FILL, CALL_NAMES};
 use crate::expect::{due, purged_items, step, Item};
 use crate::histories::{Calls, Lines, Profile};
 use crate::ledger::Ledger;
-use crate::partition::{entries_of, rows_of, CLEARING, ROWS};
+use crate::partition::{entries_of, rows_of, Entry, CLEARING, ROWS};
 use crate::refusal::Refusal;
 use crate::session::{parse, print, Session};
 use crate::sound::{broken_clauses, well_formed};
 use crate::store::{Closed, Store};
-use crate::visible::{bytes_needed, Reader};
+use crate::visible::{bytes_needed, shown, Reader, View};
 use crate::{AREA_ENTRIES, AREA_ROWS, DEPS, LAST_EPOCH, PARTITIONS, TICKET_END, TXNS};
 use std::collections::BTreeSet;
 
@@ -53,6 +53,9 @@ pub enum Edge {
     BitmapNone,
     BitmapLonger,
     Scan512Rows,
+    OwnClearHidesOwnRow,
+    OwnClearHidesEarlierRow,
+    OwnClearShowsRowAfter,
     PageAtLse,
     PageBelowLce,
     LseStays,
@@ -61,7 +64,7 @@ pub enum Edge {
 }
 
 impl Edge {
-    pub const ALL: [Edge; 42] = [
+    pub const ALL: [Edge; 45] = [
         Edge::PurgeSkipped,
         Edge::PurgeRewritten,
         Edge::PurgeJoined,
@@ -99,6 +102,9 @@ impl Edge {
         Edge::BitmapNone,
         Edge::BitmapLonger,
         Edge::Scan512Rows,
+        Edge::OwnClearHidesOwnRow,
+        Edge::OwnClearHidesEarlierRow,
+        Edge::OwnClearShowsRowAfter,
         Edge::PageAtLse,
         Edge::PageBelowLce,
         Edge::LseStays,
@@ -513,7 +519,7 @@ impl Checked {
                 let old_entries = entries_of(was, &before.entries);
                 let is_row = |item: &&Item| matches!(item, Item::Row { .. });
                 let went = old_items.iter().filter(is_row).count() - left.iter().filter(is_row).count();
-                let applied = |entry: &&crate::partition::Entry| entry.mark == CLEARING && entry.epoch <= lse;
+                let applied = |entry: &&Entry| entry.mark == CLEARING && entry.epoch <= lse;
                 let clearings = old_entries.iter().filter(applied).count() as u64;
                 coverage.meet(Edge::PurgeEmptiedEntry, went > 0);
                 coverage.meet(Edge::PurgeEmptiedPartition, is.entries == 0 && was.rows > 0);
@@ -524,7 +530,7 @@ impl Checked {
                 let kept = entries_of(is, &store.entries).iter().any(|entry| entry.mark == CLEARING);
                 coverage.meet(Edge::PurgeKeptClearing, kept);
             }
-            Call::Scan { partition, lent, .. } if *partition < 8 => {
+            Call::Scan { reader, partition, lent } if *partition < 8 => {
                 let rows = old.partitions.at[*partition as usize].rows;
                 let needed = bytes_needed(rows);
                 coverage.meet(Edge::BitmapExact, accepted && *lent == needed && needed > 0);
@@ -532,10 +538,45 @@ impl Checked {
                 coverage.meet(Edge::BitmapNone, accepted && *lent == 0);
                 coverage.meet(Edge::BitmapLonger, accepted && *lent > needed);
                 coverage.meet(Edge::Scan512Rows, accepted && rows == AREA_ROWS as u64);
+                let own = if accepted { own_clearing(before, *reader, *partition) } else { None };
+                coverage.meet(Edge::OwnClearHidesOwnRow, own.is_some_and(|own| own.hides_own));
+                coverage.meet(Edge::OwnClearHidesEarlierRow, own.is_some_and(|own| own.hides_earlier));
+                coverage.meet(Edge::OwnClearShowsRowAfter, own.is_some_and(|own| own.shows_after));
             }
             _ => {}
         }
     }
+}
+
+/// What the clearings that an open load made in a lot do to its scan of that lot.
+#[derive(Clone, Copy, Debug, PartialEq, Eq)]
+pub struct OwnClearing {
+    /// They hide rows of the load.
+    pub hides_own: bool,
+    /// They hide rows of earlier epochs that the load would be shown but for them.
+    pub hides_earlier: bool,
+    /// They leave rows of the load that stand after them.
+    pub shows_after: bool,
+}
+
+/// Nothing for a page, and for a load that made no clearing there.
+pub fn own_clearing(store: &Store, reader: Reader, partition: u64) -> Option<OwnClearing> {
+    let Reader::Rw(own) = reader else {
+        return None;
+    };
+    let txn = store.manager.rw.find_open(own)?;
+    let entries = entries_of(store.manager.partitions.at.get(partition as usize)?, &store.entries);
+    let is_own_clearing = |entry: &Entry| entry.mark == CLEARING && entry.epoch == own;
+    let last = entries.iter().rposition(is_own_clearing)?;
+    let is_own_rows = |entry: &Entry| entry.mark == ROWS && entry.epoch == own;
+    let others: Vec<Entry> = entries.iter().filter(|entry| !is_own_clearing(entry)).copied().collect();
+    let is_earlier_shown =
+        |at: usize| others[at].mark == ROWS && others[at].epoch < own && shown(&View::Rw(txn), &others, at);
+    Some(OwnClearing {
+        hides_own: entries[..last].iter().any(is_own_rows),
+        hides_earlier: (0..others.len()).any(is_earlier_shown),
+        shows_after: entries[last..].iter().any(is_own_rows),
+    })
 }
 
 /// Runs a random history of so many calls with the checks. What fails is told with its place.

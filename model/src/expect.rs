@@ -1,4 +1,4 @@
-//! A second reading of calls: refusals as a table, row by row (01, "The books", "Lots", refusals; 02, (i)).
+//! A second reading of calls: refusals as a table, row by row (01, "The books", "Lots", refusals; 02, (i), (ii)).
 //!
 //! It uses the shape of the books, the test of *sound*, and nothing else of the store's code, so that the two
 //! can be compared word for word.
@@ -193,27 +193,21 @@ pub fn purged_items(items: &[Item], l: u64) -> Option<Vec<Item>> {
 /// Whether a reader is shown each row, row by row.
 fn bits(store: &Store, reader: Reader, p: usize) -> Vec<bool> {
     let books = &store.manager;
-    let (own, upper, hidden_epochs): (u64, u64, &[u64]) = match reader {
+    let (last, unseen): (u64, &[u64]) = match reader {
         Reader::Rw(epoch) => {
             let rw_txn = books.rw.at.iter().find(|rw_txn| rw_txn.epoch == epoch).expect("an open load");
-            (epoch, epoch, &rw_txn.deps[..rw_txn.deps_count as usize])
+            (epoch, &rw_txn.deps[..rw_txn.deps_count as usize])
         }
         Reader::Ro(ticket) => {
             let ro_txn = books.ro.at.iter().find(|ro_txn| ro_txn.ticket == ticket).expect("an open page");
-            (u64::MAX, ro_txn.epoch, &[])
+            (ro_txn.epoch, &[])
         }
     };
-    let seen = |epoch: u64| epoch <= upper && (epoch == own || !hidden_epochs.contains(&epoch));
-    // From the back: the clearings already passed stand after the row.
+    let seen = |epoch: u64| epoch <= last && !unseen.contains(&epoch);
     let items = items(store, p);
-    let applied: BTreeSet<u64> = items
-        .iter()
-        .filter_map(|item| match item {
-            Item::Clearing { epoch } if seen(*epoch) && *epoch != own => Some(*epoch),
-            _ => None,
-        })
-        .collect();
-    let greatest = applied.last().copied().unwrap_or(0);
+    let clearings = items.iter().filter(|item| matches!(item, Item::Clearing { .. })).map(Item::epoch);
+    let greatest = clearings.filter(|&epoch| seen(epoch)).max().unwrap_or(0);
+    // From the back: the clearings already passed stand after the row.
     let mut passed = BTreeSet::new();
     let mut bits = Vec::new();
     for item in items.iter().rev() {
@@ -222,7 +216,7 @@ fn bits(store: &Store, reader: Reader, p: usize) -> Vec<bool> {
                 passed.insert(epoch);
             }
             Item::Row { epoch, .. } => {
-                let hidden = epoch < greatest || applied.contains(&epoch) && passed.contains(&epoch);
+                let hidden = epoch < greatest || passed.contains(&epoch);
                 bits.push(seen(epoch) && !hidden);
             }
         }

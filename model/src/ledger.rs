@@ -1,4 +1,4 @@
-//! The ledger of demand 3, which shares no code with the store (01, "The ledger of demand 3").
+//! The ledger of demand 3, which shares no code with the store (01, "The ledger of demand 3"; 02, (ii)).
 //!
 //! It is fed each call's arguments and number, begin's epoch and open's ticket. Number 0 means accepted.
 
@@ -135,21 +135,21 @@ impl Ledger {
 
     /// What the ledger shows an open load of a lot, put into `shown`.
     pub fn show_rw(&self, epoch: u64, partition: usize, shown: &mut Vec<u64>) {
-        self.show(&self.rw[&epoch].snapshot, Some(epoch), partition, shown);
+        self.show(&self.rw[&epoch].snapshot, partition, shown);
     }
 
     /// What the ledger shows an open page of a lot, put into `shown`.
     pub fn show_ro(&self, ticket: u64, partition: usize, shown: &mut Vec<u64>) {
-        self.show(&self.ro[&ticket], None, partition, shown);
+        self.show(&self.ro[&ticket], partition, shown);
     }
 
-    fn show(&self, snapshot: &BTreeSet<u64>, own: Option<u64>, partition: usize, shown: &mut Vec<u64>) {
+    fn show(&self, snapshot: &BTreeSet<u64>, partition: usize, shown: &mut Vec<u64>) {
         shown.clear();
         let list = &self.lists[partition];
         let mut applied = Vec::new();
         for (at, item) in list.iter().enumerate() {
             if let Item::Clearing { mark } = item {
-                if snapshot.contains(mark) && own != Some(*mark) {
+                if snapshot.contains(mark) {
                     applied.push((at, *mark));
                 }
             }

@@ -1,5 +1,5 @@
-//! A plain model of the store of document 01, with request (i) of document 02: its limits (01, "Words of this
-//! store", "Lots", refusals).
+//! A plain model of the store of document 01, with requests (i) and (ii) of document 02: its limits (01, "Words of
+//! this store", "Lots", refusals).
 //!
 //! The modules, by subject:
 //! - `clock`, `txn`, `partition`, `visible`, `store`: the store and its calls;

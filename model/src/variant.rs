@@ -1,4 +1,4 @@
-//! Wrong readings, one changed line each, for the tests (01, "Where hands go wrong", "Agreed"; 02, (i)).
+//! Wrong readings, one changed line each, for the tests (01, "Where hands go wrong", "Agreed"; 02, (i), (ii)).
 //!
 //! Outside this crate's own unit tests `wrong` is always false, so the store has none of them.
 
@@ -30,8 +30,14 @@ pub enum Variant {
     PurgeSkipsTooMuch,
     /// Appends by all but the first open load are acknowledged and not kept.
     OnlyFirstLoadKept,
-    /// A load applies its own clearing.
-    LoadAppliesOwnClear,
+    /// A load does not apply its own clearing.
+    LoadSkipsOwnClear,
+    /// A load applies clearings of epochs that it does not see.
+    LoadAppliesUnseenClear,
+    /// From its own load a clearing hides that load's rows after it, too.
+    OwnClearHidesRowsAfter,
+    /// From its own load a clearing hides only that load's rows.
+    OwnClearHidesOwnOnly,
     /// Rows entries of one epoch that become neighbours are not joined.
     NotJoined,
     /// A refused append writes a word beyond the rows.
@@ -67,7 +73,7 @@ pub enum Variant {
 }
 
 impl Variant {
-    pub const ALL: [Variant; 30] = [
+    pub const ALL: [Variant; 33] = [
         Variant::PageAppliesBelowOnly,
         Variant::RollbackKeepsLce,
         Variant::LseByOpenEpochs,
@@ -81,7 +87,10 @@ impl Variant {
         Variant::PurgeKeepsOwnEpoch,
         Variant::PurgeSkipsTooMuch,
         Variant::OnlyFirstLoadKept,
-        Variant::LoadAppliesOwnClear,
+        Variant::LoadSkipsOwnClear,
+        Variant::LoadAppliesUnseenClear,
+        Variant::OwnClearHidesRowsAfter,
+        Variant::OwnClearHidesOwnOnly,
         Variant::NotJoined,
         Variant::RefusalWrites,
         Variant::PurgeAtLce,

@@ -1,4 +1,4 @@
-//! Each wrong reading must be told from the right one (01, "Where hands go wrong" and "Agreed"; 02, (i)).
+//! Each wrong reading must be told from the right one (01, "Where hands go wrong" and "Agreed"; 02, (i), (ii)).
 
 use crate::cases::CASES;
 use crate::check::{run_history, Checks};
@@ -83,6 +83,10 @@ fn each_named_hand_is_told_by_its_own_case() {
         (Variant::OldestOnlyByCommit, "oldest open load"),
         (Variant::OldestMayWait, "oldest open load"),
         (Variant::NewestNamed, "oldest open load"),
+        (Variant::LoadSkipsOwnClear, "own clearing"),
+        (Variant::OwnClearHidesRowsAfter, "own clearing"),
+        (Variant::OwnClearHidesOwnOnly, "own clearing"),
+        (Variant::LoadAppliesUnseenClear, "own clearing: others"),
     ] {
         let (_, case) = CASES.into_iter().find(|(name, _)| *name == named).expect("a case of that name");
         choose(Some(variant));

@@ -1,4 +1,4 @@
-//! Which rows a reader is shown, and the bits of a scan (01, "Who sees a row").
+//! Which rows a reader is shown, and the bits of a scan (01, "Who sees a row"; 02, (ii)).
 
 use crate::partition::{Entry, CLEARING};
 use crate::txn::RwTxn;
@@ -27,14 +27,18 @@ impl View<'_> {
         }
     }
 
-    /// Whether a clearing of epoch k applies.
-    pub fn applies(&self, k: u64) -> bool {
+    /// Whether a clearing of epoch k applies: each that is seen does, a load's own like any other.
+    fn applies(&self, k: u64) -> bool {
         match self {
-            View::Rw(txn) if wrong(Variant::LoadAppliesOwnClear) => self.sees(k) && k <= txn.epoch,
-            View::Rw(txn) => self.sees(k) && k < txn.epoch,
+            View::Rw(txn) if wrong(Variant::LoadSkipsOwnClear) => self.sees(k) && k < txn.epoch,
+            View::Rw(txn) if wrong(Variant::LoadAppliesUnseenClear) => k <= txn.epoch,
             View::Ro(epoch) if wrong(Variant::PageAppliesBelowOnly) => k < *epoch,
-            View::Ro(epoch) => k <= *epoch,
+            _ => self.sees(k),
         }
+    }
+
+    fn is_own(&self, k: u64) -> bool {
+        matches!(self, View::Rw(txn) if txn.epoch == k)
     }
 }
 
@@ -50,7 +54,11 @@ pub fn shown(view: &View, entries: &[Entry], at: usize) -> bool {
         }
         let k = clearing.epoch;
         let before = at <= clearing_at;
-        if j < k && (before || !wrong(Variant::ClearHidesBeforeOnly)) || j == k && before {
+        let earlier = j < k
+            && (before || !wrong(Variant::ClearHidesBeforeOnly))
+            && !(view.is_own(k) && wrong(Variant::OwnClearHidesOwnOnly));
+        let same = j == k && (before || view.is_own(k) && wrong(Variant::OwnClearHidesRowsAfter));
+        if earlier || same {
             return false;
         }
     }

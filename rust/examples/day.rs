@@ -87,7 +87,7 @@ fn main() -> Result<(), Box<dyn Error>> {
     let order = store.begin_ro(None)?;
     scan(&store, "the order page", order, &morning)?;
 
-    // Bench 1 goes on. Scrap is cleared, and what was melted of it is weighed again.
+    // Bench 1 goes on. Scrap is cleared, and what was melted of it is weighed again: the load shows only that as scrap.
     let mut evening = morning.clone();
     let third = store.begin()?;
     load(&mut store, third, NICKEL, &[weighed(1, 770)], &mut evening)?;
@@ -96,6 +96,7 @@ fn main() -> Result<(), Box<dyn Error>> {
     store.clear(melt, SCRAP)?;
     evening[SCRAP as usize].clear();
     load(&mut store, melt, SCRAP, &[weighed(2, 190)], &mut evening)?;
+    scan(&store, &format!("load {melt}"), melt, &evening)?;
     store.commit(melt)?;
     println!("load {third} has added nickel, load {melt} has cleared the scrap and weighed its melt");
 

@@ -142,9 +142,9 @@ impl Store {
         self.keep(&reply).map(|rows| rows as usize)
     }
 
-    /// Deletes a whole partition (01: clears a lot) for those who read after the transaction has landed: the rows of
-    /// earlier epochs, and its own so far. From the transaction itself nothing is hidden. Answers how many entries the
-    /// partition has then. Refusals: 5, 1, 2, 9.
+    /// Deletes a whole partition (01: clears a lot), for the transaction itself at once, and for others who read after
+    /// it has landed: the rows of earlier epochs, and its own so far. Answers how many entries the partition has then.
+    /// Refusals: 5, 1, 2, 9.
     ///
     /// ```
     /// use nizgulk::{Epoch, Refusal, Store};
@@ -156,7 +156,7 @@ impl Store {
     /// let load = store.begin()?;
     /// store.clear(load, 0)?;
     /// store.append(load, 0, &[20])?;
-    /// assert!(store.scan(load, 0)?.eq([10, 11, 20]));
+    /// assert!(store.scan(load, 0)?.eq([20]));
     /// store.commit(load)?;
     /// let after = store.begin_ro(None)?;
     /// assert!(store.scan(before, 0)?.eq([10, 11]));
@@ -233,7 +233,8 @@ impl Store {
     }
 
     /// The rows of a partition that a reader is shown, in order: a read-write transaction (01: load) by its epoch, or a
-    /// read-only one (01: page) by its ticket. Refusals: 5, 1, 2.
+    /// read-only one (01: page) by its ticket. Of a partition that it has cleared, a read-write one is shown only the
+    /// rows that it has appended since. Refusals: 5, 1, 2.
     ///
     /// ```
     /// use nizgulk::{Epoch, Refusal, Store};

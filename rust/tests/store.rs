@@ -1,5 +1,5 @@
-//! What the crate adds to the calls: the load that a close names, the iterator over rows shown, purge's part, a store's
-//! words, and where it may lie.
+//! What the crate adds to the calls: the load that a close names, the iterator over rows shown, what a load is shown
+//! that clears, purge's part, a store's words, and where it may lie.
 
 use nizgulk::calls;
 use nizgulk::limits::{ROWS_MAX, STORE_WORDS};
@@ -92,6 +92,30 @@ fn a_scan_goes_on_where_it_was_left() {
         assert!(scan.by_ref().take(taken).eq(rows[..taken].iter().copied()));
         assert_eq!(scan.fold(Vec::new(), |all, row| [all, vec![row]].concat()), rows[taken..]);
     }
+}
+
+#[test]
+fn a_load_that_reloads_is_shown_what_it_loaded_after() {
+    let mut store = Store::new(Epoch::FIRST).unwrap();
+    let first = store.begin().unwrap();
+    store.append(first, 0, &[10, 11]).unwrap();
+    store.append(first, 1, &[12]).unwrap();
+    store.commit(first).unwrap();
+    let [second, third] = [(); 2].map(|()| store.begin().unwrap());
+    let page = store.begin_ro(None).unwrap();
+    store.append(second, 0, &[20]).unwrap();
+    for rows in [[21, 22], [23, 24]] {
+        store.clear(second, 0).unwrap();
+        assert_eq!(store.scan(second, 0).unwrap().len(), 0);
+        store.append(second, 0, &rows).unwrap();
+        assert!(store.scan(second, 0).unwrap().eq(rows));
+        assert!(store.scan(second, 1).unwrap().eq([12]));
+        assert!(store.scan(third, 0).unwrap().eq([10, 11]));
+        assert!(store.scan(page, 0).unwrap().eq([10, 11]));
+    }
+    store.roll_back(second).unwrap();
+    assert!(store.scan(third, 0).unwrap().eq([10, 11]));
+    assert!(store.scan(page, 0).unwrap().eq([10, 11]));
 }
 
 #[test]

@@ -3,7 +3,7 @@
 //! number, the values, the part that a purge answers with, and every word of the books, the areas and the bitmap at the
 //! end of each call.
 
-use compare::{by_library, live_part, numbers, told};
+use compare::{by_library, live_part, numbers, obeys_own_clearing, told};
 use model::call::Call;
 use model::check::difference;
 use model::histories::{Calls, PROFILES};
@@ -19,13 +19,14 @@ const ROUNDS: u64 = 20_000;
 /// Calls on one store.
 const CALLS: u64 = 12;
 
-/// How often each number was answered, how many rows the parts had that purges answered with, and how many commits and
-/// rollbacks named a load.
+/// How often each number was answered, how many rows the parts had that purges answered with, how many commits and
+/// rollbacks named a load, and from how many scans by a load its own clearing hid rows.
 #[derive(Default)]
 struct Tally {
     numbers: [u64; 11],
     part_rows: usize,
     named: u64,
+    own_clearings: u64,
 }
 
 /// Runs one call on both, and says where they differ.
@@ -41,6 +42,7 @@ fn differs(one: &Call, store: &mut Store, tally: &mut Tally) -> Result<(), Strin
     if let Call::Commit { .. } | Call::Rollback { .. } = one {
         tally.named += u64::from(reply.second > 0);
     }
+    tally.own_clearings += u64::from(reply.number == 0 && obeys_own_clearing(one, store));
     if told(&reply) != expected {
         return Err(format!("answers {:?}, and the model {expected:?}", told(&reply)));
     }
@@ -106,16 +108,12 @@ fn main() -> ExitCode {
         println!("no call was answered {number}: the comparison is too weak");
         return ExitCode::FAILURE;
     }
-    if tally.part_rows == 0 || tally.named == 0 {
-        println!("{} rows in parts, {} loads named: the comparison is too weak", tally.part_rows, tally.named);
+    let Tally { numbers, part_rows, named, own_clearings } = tally;
+    let met = format!("{part_rows} rows in parts, {named} loads named, {own_clearings} scans with own clearings");
+    if part_rows == 0 || named == 0 || own_clearings == 0 {
+        println!("{met}: the comparison is too weak");
         return ExitCode::FAILURE;
     }
-    println!(
-        "library: {} calls on {rounds} stores agree; by number {:?}; {} rows in parts, {} loads named",
-        rounds * CALLS,
-        tally.numbers,
-        tally.part_rows,
-        tally.named
-    );
+    println!("library: {} calls on {rounds} stores agree; by number {numbers:?}; {met}", rounds * CALLS);
     ExitCode::SUCCESS
 }

@@ -2,7 +2,7 @@
 //! Compared are the number, the values, the rows that a scan hands out, the part that a purge does, and every word of
 //! the store at the end of each call.
 
-use compare::{books_of, live_part, numbers, Areas};
+use compare::{books_of, live_part, numbers, obeys_own_clearing, Areas};
 use model::call::{Answer, Call};
 use model::histories::{Calls, PROFILES};
 use model::partition::rows_of;
@@ -80,14 +80,15 @@ fn typed_of(store: &Store) -> Option<nizgulk::Store> {
     Some(nizgulk::Store::from_parts(books_of(&store.manager), entries.try_into().ok()?, rows.try_into().ok()?))
 }
 
-/// How often each number was answered, how many rows scans and purges handed out, and how many commits and rollbacks
-/// named a load.
+/// How often each number was answered, how many rows scans and purges handed out, how many commits and rollbacks named
+/// a load, and from how many scans by a load its own clearing hid rows.
 #[derive(Default)]
 struct Tally {
     numbers: [u64; 11],
     scanned: usize,
     purged: usize,
     named: u64,
+    own_clearings: u64,
 }
 
 /// Runs one call on both, and says where they differ.
@@ -104,6 +105,7 @@ fn differs(one: &Call, proved: &mut nizgulk::Store, store: &mut Store, tally: &m
         (_, Err(number)) => tally.numbers[number.min(10) as usize] += 1,
         (one, Ok(((_, second), rows))) => {
             tally.numbers[0] += 1;
+            tally.own_clearings += u64::from(obeys_own_clearing(one, store));
             match one {
                 Call::Scan { .. } => tally.scanned += rows.len(),
                 Call::Commit { .. } | Call::Rollback { .. } => tally.named += u64::from(second > 0),
@@ -141,14 +143,14 @@ fn main() -> ExitCode {
         println!("by number {:?}: the comparison is too weak", tally.numbers);
         return ExitCode::FAILURE;
     }
-    let Tally { numbers, scanned, purged, named } = tally;
-    if scanned == 0 || purged == 0 || named == 0 {
-        println!("{scanned} rows scanned, {purged} in parts, {named} loads named: the comparison is too weak");
+    let Tally { numbers, scanned, purged, named, own_clearings } = tally;
+    let met = format!(
+        "{scanned} rows scanned, {purged} in parts, {named} loads named, {own_clearings} scans with own clearings"
+    );
+    if scanned == 0 || purged == 0 || named == 0 || own_clearings == 0 {
+        println!("{met}: the comparison is too weak");
         return ExitCode::FAILURE;
     }
-    println!(
-        "typed: {} calls agree; by number {numbers:?}; {scanned} rows scanned, {purged} in parts, {named} loads named",
-        numbers.iter().sum::<u64>()
-    );
+    println!("typed: {} calls agree; by number {numbers:?}; {met}", numbers.iter().sum::<u64>());
     ExitCode::SUCCESS
 }
