@@ -183,6 +183,10 @@ int main(void)
     reply = nizgulk_clear(reply.state, LENT, third, SCRAP);
     printf("  load %d clears %s, which has %d entries now\n", (int)third, names[SCRAP], (int)accepted("a clearing"));
     append(third, SCRAP, new_scrap, COUNT(new_scrap));
+    now = by_load(third, SCRAP);
+    due("a load that cleared is shown what it brought since alone", are(&now, new_scrap, COUNT(new_scrap)));
+    now = by_load(fourth, SCRAP);
+    due("and another load is shown the scrap as it was", are(&now, scrap, COUNT(scrap)));
     append(fourth, BRASS, mistyped, COUNT(mistyped));
     append(fourth, BRONZE, mistyped, COUNT(mistyped));
     commit(third);

@@ -246,7 +246,8 @@ struct nizgulk_reply nizgulk_end_ro(struct nizgulk_state state, const struct niz
  * the next roll back, or purge of that partition: these may put the rows to other places. */
 
 /* What transaction `txn` is shown of partition `p`: its own rows, and those of the loads that were committed when it
- * began, but for what a clearing hides that it sees. A clearing of its own hides nothing from it.
+ * began, but for what a clearing hides that it sees. It sees its own: of a partition that it has cleared, it is shown
+ * only the rows that it has appended since.
  * Refusals, in this order: 5, 1, 2, 3. */
 struct nizgulk_seen nizgulk_scan_rw(struct nizgulk_state state, const struct nizgulk_entry *entries, size_t entries_len,
                                     const uint64_t *rows, size_t rows_len, uint8_t *bitmap, size_t bitmap_len,

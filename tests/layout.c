@@ -1,7 +1,8 @@
 /* The layout that include/nizgulk.h states. Asserted where this is compiled, as C99 or as C++: every size, place and
  * width, in bytes. Checked where it is run, against the library: a history that leaves another number in almost every
  * word of the books, compared word by word with books written here by the names of their fields; that the library reads
- * each of these words; every limit from both sides; every refusal. It ends with status 1 where something differs. */
+ * each of these words; every limit from both sides; every refusal; what a load is shown that clears. It ends with
+ * status 1 where something differs. */
 #include "nizgulk.h"
 
 #include <stdio.h>
@@ -357,6 +358,44 @@ static void closes(void)
     told_both("a roll back of the last load", NIZGULK_ACCEPTED, 2003, 0);
 }
 
+/* What load `txn` is shown of the five rows of partition 3. */
+static void shown_to(const char *what, uint64_t txn, uint64_t ones, uint8_t bits)
+{
+    uint8_t bitmap = 0xa5;
+    struct nizgulk_seen seen = nizgulk_scan_rw(reply.state, LENT, &bitmap, 1, txn, 3);
+    is(what, seen.number, NIZGULK_ACCEPTED);
+    is(what, seen.value, 5);
+    is(what, seen.second, ones);
+    is(what, bitmap, bits);
+}
+
+/* A load that clears a partition and loads it again is shown only what it loaded after. */
+static void reload(void)
+{
+    const uint64_t batch[3] = {1, 2, 3};
+    uint64_t txn;
+    reply = nizgulk_create(reply.state, LENT, 3001);
+    told("making new", NIZGULK_ACCEPTED, 0);
+    reply = nizgulk_begin(reply.state, LENT);
+    told("begin", NIZGULK_ACCEPTED, 3001);
+    reply = nizgulk_append(reply.state, LENT, batch, 2, 3001, 3);
+    told("append", NIZGULK_ACCEPTED, 2);
+    reply = nizgulk_commit(reply.state, LENT, 3001);
+    told("commit", NIZGULK_ACCEPTED, 3001);
+    for (txn = 3002; txn <= 3003; txn++) {
+        reply = nizgulk_begin(reply.state, LENT);
+        told("begin", NIZGULK_ACCEPTED, txn);
+    }
+    reply = nizgulk_append(reply.state, LENT, batch, 1, 3002, 3);
+    told("append", NIZGULK_ACCEPTED, 3);
+    reply = nizgulk_clear(reply.state, LENT, 3002, 3);
+    told("clear", NIZGULK_ACCEPTED, 3);
+    reply = nizgulk_append(reply.state, LENT, batch, 2, 3002, 3);
+    told("append", NIZGULK_ACCEPTED, 5);
+    shown_to("what the load is shown that cleared", 3002, 2, 0x18);
+    shown_to("what another load is shown", 3003, 2, 0x03);
+}
+
 static void bytes_of(const char *what, size_t bytes)
 {
     printf("bytes of %-24s %6lu\n", what, (unsigned long)bytes);
@@ -374,6 +413,7 @@ int main(void)
     scans();
     limits();
     closes();
+    reload();
     bytes_of("the books", sizeof want);
     bytes_of("the entries", sizeof entries - sizeof *entries);
     bytes_of("the rows", sizeof rows - sizeof *rows);
