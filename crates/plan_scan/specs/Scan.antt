@@ -3,7 +3,7 @@
 -- store/proofs/Laws/Scan.antt.
 -- Assumes nothing.
 use mathlib.Core.Bool.{Bool, _&&_, cond}
-use mathlib.Core.List.{List, _++_}
+use mathlib.Core.List.{List, [], _++_}
 use Prim.Native.Nat.{ℕ, _/_}
 use lib.ListN.{length, take, drop, replicate}
 use lib.Dec.{ltb, leb}
@@ -18,7 +18,7 @@ use Rattle.rules.specs.Manager.{Manager}
 use Rattle.rules.specs.declared.Partition.{Partition}
 use Rattle.rules.specs.declared.State.{State}
 use Rattle.visible.specs.declared.View.{View}
-use Rattle.visible.specs.View.{depsWith, pageView}
+use Rattle.visible.specs.View.{pageView}
 use Rattle.visible.specs.Scan.{scanned, bitmapScanned}
 use Rattle.area.specs.declared.Area.{Area}
 use Rattle.admit.specs.Admit.{admitted, byAdmission}
@@ -35,31 +35,31 @@ noBits = replicate bitmapMax 0
 abbrev pub refusedLook : Refusal → Look
 refusedLook why = record { answer = Refused why; bits = noBits; count = 0 }
 
--- the reader of view v, with the entries of area a and k bytes lent
-unfoldable pub lookAt : Area → Partition → View → ℕ → Look
-lookAt a q v k =
+-- the reader of view v and of these deps, with the entries of area a and k bytes lent
+unfoldable pub lookAt : Area → Partition → View → List ℕ → ℕ → Look
+lookAt a q v deps k =
     cond (ltb k (bytesFor (q .rows))) (refusedLook ShortBitmap)
     (record {
-      answer = Scanned (q .rows) (scanned v a (q .rows) noBits .ones); bits = bitmapScanned v a (q .rows) noBits;
-      count = bytesFor (q .rows) })
+      answer = Scanned (q .rows) (scanned v deps a (q .rows) noBits .ones);
+      bits = bitmapScanned v deps a (q .rows) noBits; count = bytesFor (q .rows) })
 
-abbrev pub rwView : ℕ → Manager → View
-rwView i m = record { epoch = i; rw = 1; deps = depsWith (depsAt i m) }
+abbrev pub rwView : ℕ → View
+rwView i = record { epoch = i; rw = 1 }
 
 abbrev pub roView : ℕ → Manager → View
 roView i m = pageView (epochAt i m)
 
 -- 01's order: 5, 1, 2, 3; isOpen says whether the reader is, and a has the partition's entries
-abbrev pub lookBy : Bool → View → State → Bool → Area → ℕ → ℕ → Look
-lookBy isOpen v s rest a k p =
-    byAdmission refusedLook (λ q. cond isOpen (lookAt a q v k) (refusedLook NotOpen))
+abbrev pub lookBy : Bool → View → List ℕ → State → Bool → Area → ℕ → ℕ → Look
+lookBy isOpen v deps s rest a k p =
+    byAdmission refusedLook (λ q. cond isOpen (lookAt a q v deps k) (refusedLook NotOpen))
     (admitted (rest && managerOk (managerIn s)) (s .partitions) p)
 
 unfoldable pub rwLook : State → Bool → Area → ℕ → ℕ → ℕ → Look
-rwLook s rest a k i p = lookBy (hasOpen i (managerIn s)) (rwView i (managerIn s)) s rest a k p
+rwLook s rest a k i p = lookBy (hasOpen i (managerIn s)) (rwView i) (depsAt i (managerIn s)) s rest a k p
 
 unfoldable pub roLook : State → Bool → Area → ℕ → ℕ → ℕ → Look
-roLook s rest a k i p = lookBy (hasReader i (managerIn s)) (roView i (managerIn s)) s rest a k p
+roLook s rest a k i p = lookBy (hasReader i (managerIn s)) (roView i (managerIn s)) [] s rest a k p
 
 -- the first n of the bytes over those lent, where so many are
 unfoldable pub copied : ℕ → List ℕ → List ℕ → List ℕ

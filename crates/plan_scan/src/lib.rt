@@ -1,25 +1,19 @@
 // Scans (01 "Who sees a row"), decided by value: what is refused, and the bytes that a call writes.
 ghost use mathlib.Core.Path.{_≡_};
-ghost use lib.ListN.{take};
-ghost use Rattle.rules.specs.Limits.{depsMax};
-ghost use Rattle.visible.specs.View.{depsWith};
 ghost use Rattle.plan_scan.specs.Scan.{refusedLook, lookAt, rwLook, roLook, copied};
 use admit::Admitted;
 use admit::admit;
 use area::Area;
-use places::in_use;
 use rules::Answer;
 use rules::Partition;
 use rules::Refusal;
 use rules::State;
-use rules::limits::DEPS_MAX;
 use rules::limits::ROWS_MAX;
 use txn::parts_sound;
 use txn_find::Found;
 use txn_find::find_reader;
 use txn_find::find_writer;
 use txn_find::row_of;
-use visible::Deps;
 use visible::View;
 
 // The bytes that a partition's rows need at most.
@@ -43,9 +37,9 @@ fn refused(why: Refusal) -> Look
     }
 }
 
-// The reader of view v scans partition q, whose entries are a, and k bytes are lent.
-fn scan_partition(a: Area, q: Partition, v: View, k: usize) -> Look
-    ensures { λ r. ⌜ r ≡ lookAt a q v k ⌝ }
+// The reader of view v and of these deps scans partition q, whose entries are a, and k bytes are lent.
+fn scan_partition(a: Area, q: Partition, v: View, deps: &[u64], k: usize) -> Look
+    ensures { λ r. ⌜ r ≡ lookAt a q v (now (deps .entry)) k ⌝ }
 {
     let rows = q.rows;
     let count = bitmap::bytes_for(rows);
@@ -53,7 +47,7 @@ fn scan_partition(a: Area, q: Partition, v: View, k: usize) -> Look
         return refused(Refusal::ShortBitmap);
     }
     let mut bits = [0u8; BITMAP_MAX];
-    let done = visible::scan(v, a, rows, &mut bits);
+    let done = visible::scan(v, deps, a, rows, &mut bits);
     let answer = Answer::Scanned {
         rows: rows,
         ones: done.ones,
@@ -63,20 +57,6 @@ fn scan_partition(a: Area, q: Partition, v: View, k: usize) -> Look
         bits: bits,
         count: count,
     }
-}
-
-// A row of the table of deps by value, unused places 0.
-fn in_places(row: &[u64]) -> Deps
-    ensures { λ r. ⌜ r ≡ depsWith (take depsMax (now (row .entry))) ⌝ }
-{
-    let n = in_use(row.len(), DEPS_MAX);
-    let mut at = [0u64; DEPS_MAX];
-    let mut i: usize = 0;
-    while i < n {
-        at[i] = row[i];
-        i += 1;
-    }
-    Deps { at: at, count: n }
 }
 
 // Transaction i scans partition p, whose entries are a; rest says whether the rest of the store is sound.
@@ -93,13 +73,8 @@ pub fn rw_core(state: State, rest: bool, a: Area, k: usize, i: u64, p: u64) -> L
                 return refused(Refusal::NotOpen);
             };
             let n = writers.at[j].deps;
-            let deps = in_places(row_of(&state.deps, j, n));
-            let v = View {
-                epoch: i,
-                rw: 1,
-                deps: deps,
-            };
-            scan_partition(a, q, v, k)
+            let v = View { epoch: i, rw: 1 };
+            scan_partition(a, q, v, row_of(&state.deps, j, n), k)
         }
     }
 }
@@ -118,7 +93,7 @@ pub fn ro_core(state: State, rest: bool, a: Area, k: usize, i: u64, p: u64) -> L
                 return refused(Refusal::NotOpen);
             };
             let v = visible::page(readers.at[j].epoch);
-            scan_partition(a, q, v, k)
+            scan_partition(a, q, v, row_of(&state.deps, 0, 0), k)
         }
     }
 }

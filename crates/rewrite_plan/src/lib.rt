@@ -122,7 +122,8 @@ pub fn purge_plan(a: Area, l: u64) -> Plan
 {
     let n = in_use(a.count, ENTRIES_MAX);
     let v = page(l);
-    let top = find_top(v, a, n);
+    let none = [0u64; 0];
+    let top = find_top(v, &none, a, n);
     let mut plan = [0u64; ENTRIES_MAX];
     let mut k = 0;
     while k < n {

@@ -3,6 +3,7 @@
 -- Assumes nothing.
 use mathlib.Core.Bool.{Bool}
 use mathlib.Core.List.{List}
+use Prim.Native.Nat.{ℕ}
 use Rattle.rules.specs.declared.Entry.{Entry}
 use Rattle.rules.specs.Top.{Top as Greatest, flagsBy}
 use Rattle.visible.specs.declared.View.{View}
@@ -15,5 +16,5 @@ abbrev pub asTop : Top → Greatest
 asTop t = record { epoch = t .epoch; at = t .at }
 
 -- the flags of entries by the greatest applied delete
-abbrev pub flagsUnder : View → Top → List Entry → List Bool
-flagsUnder v t es = flagsBy (seesView v) (asTop t) 0 (bare 0 es)
+abbrev pub flagsUnder : View → List ℕ → Top → List Entry → List Bool
+flagsUnder v deps t es = flagsBy (seesView v deps) (asTop t) 0 (bare 0 es)

@@ -23,14 +23,14 @@ unfoldable pub scanOk : Area → ℕ → List ℕ → Bool
 scanOk t rows lent = endsOk rows 0 (entriesIn t) && (leb rows rowsMax && leb (bytesFor rows) (length lent))
 
 -- the flags of a reader: it applies the deletes that it sees (laws' `applies-all`)
-abbrev pub viewFlags : View → List Entry → List Bool
-viewFlags v es = flagsOf (seesView v) (seesView v) es
+abbrev pub viewFlags : View → List ℕ → List Entry → List Bool
+viewFlags v deps es = flagsOf (seesView v deps) (seesView v deps) es
 
-abbrev pub tableFlags : View → Area → List Bool
-tableFlags v t = viewFlags v (entriesIn t)
+abbrev pub tableFlags : View → List ℕ → Area → List Bool
+tableFlags v deps t = viewFlags v deps (entriesIn t)
 
-unfoldable pub scanned : View → Area → ℕ → List ℕ → Scanned
-scanned v t rows lent = record { ones = cond (scanOk t rows lent) (ones (tableFlags v t)) 0 }
+unfoldable pub scanned : View → List ℕ → Area → ℕ → List ℕ → Scanned
+scanned v deps t rows lent = record { ones = cond (scanOk t rows lent) (ones (tableFlags v deps t)) 0 }
 
-unfoldable pub bitmapScanned : View → Area → ℕ → List ℕ → List ℕ
-bitmapScanned v t rows lent = cond (scanOk t rows lent) (bitmapAfter (tableFlags v t) lent) lent
+unfoldable pub bitmapScanned : View → List ℕ → Area → ℕ → List ℕ → List ℕ
+bitmapScanned v deps t rows lent = cond (scanOk t rows lent) (bitmapAfter (tableFlags v deps t) lent) lent

@@ -22,9 +22,9 @@ pub struct Top {
 }
 
 // The entry at index i, after those before it.
-fn top_step(v: View, top: Top, e: Entry, i: usize) -> Top
+fn top_step(v: View, deps: &[u64], top: Top, e: Entry, i: usize) -> Top
     requires { ⌜ i < entriesMax ⌝ }
-    ensures { λ r. ⌜ asTop r ≡ topStep (seesView v) i (asTop top) (bareSpan 0 e) ⌝ }
+    ensures { λ r. ⌜ asTop r ≡ topStep (seesView v (now (deps .entry))) i (asTop top) (bareSpan 0 e) ⌝ }
 {
     if e.mark != 1 {
         return top;
@@ -32,7 +32,7 @@ fn top_step(v: View, top: Top, e: Entry, i: usize) -> Top
     if e.epoch < top.epoch {
         return top;
     }
-    if !sees(v, e.epoch) {
+    if !sees(v, deps, e.epoch) {
         return top;
     }
     Top {
@@ -42,15 +42,15 @@ fn top_step(v: View, top: Top, e: Entry, i: usize) -> Top
 }
 
 // Of the first n entries, or of all where there are fewer.
-pub fn find_top(v: View, t: Area, n: usize) -> Top
-    ensures { λ r. ⌜ asTop r ≡ topDelete (seesView v) (bare 0 (take n (t .at))) ⌝ }
+pub fn find_top(v: View, deps: &[u64], t: Area, n: usize) -> Top
+    ensures { λ r. ⌜ asTop r ≡ topDelete (seesView v (now (deps .entry))) (bare 0 (take n (t .at))) ⌝ }
 {
     let m = in_use(n, ENTRIES_MAX);
     let mut top = Top { epoch: 0, at: 0 };
     let mut i = 0;
     while i < m {
         let e = t.at[i];
-        top = top_step(v, top, e, i);
+        top = top_step(v, deps, top, e, i);
         i += 1;
     }
     top

@@ -4,7 +4,6 @@ use crate::write::write;
 use area::Area;
 use bitmap::bytes_for;
 use places::in_use;
-use rules::limits::DEPS_MAX;
 use rules::limits::ENTRIES_MAX;
 use rules::limits::ROWS_MAX;
 
@@ -19,34 +18,21 @@ ghost use mathlib.Core.Path.{_≡_};
 ghost use Rattle.visible.specs.View.{pageView};
 ghost use Rattle.visible.specs.Scan.{scanned, bitmapScanned};
 
-// The epochs that were open when a read-write transaction began (01: deps), those in use first.
-#[repr(C)]
-pub struct Deps {
-    pub at: [u64; DEPS_MAX],
-    pub count: usize,
-}
-
-// A reader: rw is 1 for a read-write transaction (01: load) of this epoch with these deps; else it is a
-// read-only one (01: page) at this epoch, and the deps are not read.
+// A reader: rw is 1 for a read-write transaction (01: load) of this epoch, whose deps are lent beside it, the epochs
+// that were open when it began; else it is a read-only one (01: page) at this epoch, and what is lent is not read.
 #[repr(C)]
 pub struct View {
     pub epoch: u64,
     pub rw: u64,
-    pub deps: Deps,
 }
 
 // A read-only transaction at this epoch.
 pub fn page(epoch: u64) -> View
     ensures { λ r. ⌜ r ≡ pageView epoch ⌝ }
 {
-    let deps = Deps {
-        at: [0; DEPS_MAX],
-        count: 0,
-    };
     View {
         epoch: epoch,
         rw: 0,
-        deps: deps,
     }
 }
 
@@ -58,9 +44,9 @@ pub struct Scanned {
 
 // A bit a row: whether the reader is shown it. Where the ends are not those of so many rows, there are more
 // rows than a partition has, or the bitmap is shorter than they need, nothing is written and the count is 0.
-pub fn scan(v: View, t: Area, rows: usize, bitmap: &mut [u8]) -> Scanned
-    ensures answer { λ r. ⌜ r ≡ scanned v t rows (now (bitmap .entry)) ⌝ }
-    ensures words { λ _. ⌜ now (bitmap .exit) ≡ bitmapScanned v t rows (now (bitmap .entry)) ⌝ }
+pub fn scan(v: View, deps: &[u64], t: Area, rows: usize, bitmap: &mut [u8]) -> Scanned
+    ensures answer { λ r. ⌜ r ≡ scanned v (now (deps .entry)) t rows (now (bitmap .entry)) ⌝ }
+    ensures words { λ _. ⌜ now (bitmap .exit) ≡ bitmapScanned v (now (deps .entry)) t rows (now (bitmap .entry)) ⌝ }
 {
     let n = in_use(t.count, ENTRIES_MAX);
     if !ends_ok(t, n, rows) {
@@ -73,6 +59,6 @@ pub fn scan(v: View, t: Area, rows: usize, bitmap: &mut [u8]) -> Scanned
         return Scanned { ones: 0 };
     }
     Scanned {
-        ones: write(v, t, n, rows, bitmap),
+        ones: write(v, deps, t, n, rows, bitmap),
     }
 }

@@ -18,10 +18,10 @@ ghost use Rattle.visible.specs.View.{seesView};
 ghost use Rattle.visible.specs.Passes.{asTop, flagsUnder};
 
 // The rows of the entry at index i: all are shown, or none.
-fn shows(v: View, top: Top, e: Entry, i: usize) -> bool
-    ensures { λ r. ⌜ r ≡ (seesView v (e .epoch) && not (covers (asTop top) i (e .epoch))) ⌝ }
+fn shows(v: View, deps: &[u64], top: Top, e: Entry, i: usize) -> bool
+    ensures { λ r. ⌜ r ≡ (seesView v (now (deps .entry)) (e .epoch) && not (covers (asTop top) i (e .epoch))) ⌝ }
 {
-    if !sees(v, e.epoch) {
+    if !sees(v, deps, e.epoch) {
         return false;
     }
     !hides(top, i, e.epoch)
@@ -45,17 +45,17 @@ fn fill(shown: &mut [bool], from: usize, to: usize, b: bool) -> usize
 }
 
 // The flags of the rows of the first n entries, which are as many as shown is long; answers how many are true.
-fn show(v: View, t: Area, n: usize, top: Top, shown: &mut [bool]) -> usize
+fn show(v: View, deps: &[u64], t: Area, n: usize, top: Top, shown: &mut [bool]) -> usize
     requires { ⌜ (n ≤ entriesMax) × (endsOk (length (now shown)) 0 (take n (t .at)) ≡ true) ⌝ }
-    ensures { λ r. ⌜ (r ≡ ones (flagsUnder v top (take n (t .at))))
-        × (now (shown .exit) ≡ flagsUnder v top (take n (t .at))) ⌝ }
+    ensures { λ r. ⌜ (r ≡ ones (flagsUnder v (now (deps .entry)) top (take n (t .at))))
+        × (now (shown .exit) ≡ flagsUnder v (now (deps .entry)) top (take n (t .at))) ⌝ }
 {
     let mut count = 0;
     let mut from = 0;
     let mut i = 0;
     while i < n {
         let e = t.at[i];
-        let b = shows(v, top, e, i);
+        let b = shows(v, deps, top, e, i);
         count += fill(shown, from, e.end, b);
         from = e.end;
         i += 1;
@@ -66,6 +66,7 @@ fn show(v: View, t: Area, n: usize, top: Top, shown: &mut [bool]) -> usize
 // The same at the front of flags that may be more.
 pub(crate) fn show_front(
     v: View,
+    deps: &[u64],
     t: Area,
     n: usize,
     rows: usize,
@@ -73,8 +74,8 @@ pub(crate) fn show_front(
     shown: &mut [bool],
 ) -> usize
     requires { ⌜ (n ≤ entriesMax) × (rows ≤ length (now shown)) × (endsOk rows 0 (take n (t .at)) ≡ true) ⌝ }
-    ensures { λ r. ⌜ (r ≡ ones (flagsUnder v top (take n (t .at))))
-        × (now (shown .exit) ≡ flagsUnder v top (take n (t .at)) ++ drop rows (now (shown .entry))) ⌝ }
+    ensures { λ r. ⌜ (r ≡ ones (flagsUnder v (now (deps .entry)) top (take n (t .at)))) × (now (shown .exit)
+        ≡ flagsUnder v (now (deps .entry)) top (take n (t .at)) ++ drop rows (now (shown .entry))) ⌝ }
 {
-    show(v, t, n, top, &mut shown[..rows])
+    show(v, deps, t, n, top, &mut shown[..rows])
 }

@@ -1,21 +1,16 @@
 // Which epochs a reader sees; the deletes (01: clearings) of these it applies. 01 "Who sees a row".
-use crate::Deps;
 use crate::View;
-use places::in_use;
-use rules::limits::DEPS_MAX;
 ghost use mathlib.Core.Path.{_≡_};
-ghost use lib.ListN.{take};
 ghost use Rattle.lists.specs.Lists.{elem};
 ghost use Rattle.visible.specs.View.{seesView};
 
-// Whether j is among the deps in use.
-fn in_deps(d: Deps, j: u64) -> bool
-    ensures { λ r. ⌜ r ≡ elem j (take (d .count) (d .at)) ⌝ }
+// Whether j is among the deps.
+fn in_deps(deps: &[u64], j: u64) -> bool
+    ensures { λ r. ⌜ r ≡ elem j (now (deps .entry)) ⌝ }
 {
-    let n = in_use(d.count, DEPS_MAX);
     let mut i = 0;
-    while i < n {
-        if j == d.at[i] {
+    while i < deps.len() {
+        if j == deps[i] {
             return true;
         }
         i += 1;
@@ -24,8 +19,8 @@ fn in_deps(d: Deps, j: u64) -> bool
 }
 
 // Whether the reader sees epoch j.
-pub fn sees(v: View, j: u64) -> bool
-    ensures { λ r. ⌜ r ≡ seesView v j ⌝ }
+pub fn sees(v: View, deps: &[u64], j: u64) -> bool
+    ensures { λ r. ⌜ r ≡ seesView v (now (deps .entry)) j ⌝ }
 {
     if v.rw != 1 {
         return j <= v.epoch;
@@ -36,6 +31,5 @@ pub fn sees(v: View, j: u64) -> bool
     if v.epoch < j {
         return false;
     }
-    let d = v.deps;
-    !in_deps(d, j)
+    !in_deps(deps, j)
 }

@@ -17,15 +17,22 @@ ghost use Rattle.rules.specs.WellFormed.{endsOk};
 ghost use Rattle.visible.specs.Scan.{viewFlags};
 
 // The first n entries; answers how many rows are shown.
-pub(crate) fn write(v: View, t: Area, n: usize, rows: usize, bitmap: &mut [u8]) -> usize
+pub(crate) fn write(
+    v: View,
+    deps: &[u64],
+    t: Area,
+    n: usize,
+    rows: usize,
+    bitmap: &mut [u8],
+) -> usize
     requires { ⌜ (n ≤ entriesMax) × (rows ≤ rowsMax) × (endsOk rows 0 (take n (t .at)) ≡ true)
         × (bytesFor rows ≤ length (now bitmap)) ⌝ }
-    ensures { λ r. ⌜ (r ≡ ones (viewFlags v (take n (t .at))))
-        × (now (bitmap .exit) ≡ bitmapAfter (viewFlags v (take n (t .at))) (now (bitmap .entry))) ⌝ }
+    ensures { λ r. ⌜ (r ≡ ones (viewFlags v (now (deps .entry)) (take n (t .at)))) × (now (bitmap .exit)
+        ≡ bitmapAfter (viewFlags v (now (deps .entry)) (take n (t .at))) (now (bitmap .entry))) ⌝ }
 {
-    let top = find_top(v, t, n);
+    let top = find_top(v, deps, t, n);
     let mut shown = [false; ROWS_MAX];
-    let ones = show_front(v, t, n, rows, top, &mut shown);
+    let ones = show_front(v, deps, t, n, rows, top, &mut shown);
     pack(&shown, bytes_for(rows), bitmap);
     ones
 }

@@ -55,12 +55,12 @@ returns-2 c = let k = c .before .before in let a = k .before .before in
 
 returns-3 : tie.Need-returns-3
 unfolding roLook
-returns-3 c = let v = c .before in let j = v .before .before in let f = j .before .before in
-    let k = f .before .before .before in let a = k .before .before in let s = start a in
+returns-3 c = let d = c .before in let v = d .before .before .before .before in let j = v .before .before in
+    let f = j .before .before in let k = f .before .before .before in let a = k .before .before in let s = start a in
     let w = reader-stands (managerIn (s .args .t1)) _ (sized (s .args .t1) (s .good .0)) (f .find-reader .ensures)
-          (j .j .given .1)
-        in rw (← sound a, ← a .admit .ensures, k .admitted2 .given .1, w .any, w .first noRo, ← v .page .ensures)
-    (c .scan-partition .ensures)
+          (j .j .given .1) in
+    rw (← sound a, ← a .admit .ensures, k .admitted2 .given .1, w .any, w .first noRo, ← v .page .ensures,
+      ← d .row-of .ensures) (c .scan-partition .ensures)
 
 pub ro-core-spec : {M : Type 1} → statement M
 ro-core-spec =
@@ -78,6 +78,7 @@ ro-core-spec =
     returns
     mul-page
     element-copy-out-page
+    (λ c κs. search needs)
     (λ c κs. search needs)
     (λ c κs. search needs)
     returns-2

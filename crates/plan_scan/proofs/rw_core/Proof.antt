@@ -1,20 +1,16 @@
 -- `plan_scan::rw_core` meets its contract: refused, or a scan of the partition that it is admitted to, with the deps of
 -- the record that is found.
 -- Assumes nothing.
-use mathlib.Core.Path.{_≡_, sym, ap, _∙_}
+use mathlib.Core.Path.{_≡_, sym, ap}
 use mathlib.Core.Bool.{_&&_}
-use mathlib.Core.List.{List}
-use Prim.Native.Nat.{ℕ, _*_, _<_, min}
+use Prim.Native.Nat.{ℕ, _*_, min}
 use native.Mathlib.Omega.{arith}
-use lib.ListN.{take, drop, getD, length-take}
-use lib.Seq.{take-all}
+use lib.ListN.{getD}
 use borrow.Author.Needs.{needs}
 use Rattle.lists.specs.Lists.{part}
 use Rattle.rules.specs.Limits.{writersMax, depsMax}
 use Rattle.rules.specs.Manager.{noWriter, noRw, writersOf, view, opens, depsAt, managerIn}
 use Rattle.rules.specs.Manager.{Manager}
-use Rattle.visible.specs.declared.Deps.{Deps}
-use Rattle.visible.specs.View.{depsWith}
 use Rattle.txn_find.specs.Find.{rowAt}
 use Rattle.txn_find.proofs.Laws.Find.{Stands, writer-stands, writer-none}
 use Rattle.rules.specs.WellFormed.{managerOk}
@@ -24,21 +20,13 @@ use Rattle.plan_scan.specs.Scan.{rwLook}
 use Rattle.plan_scan.proofs.rw_core.Statement.{statement}
 use Rattle.plan_scan.proofs.rw_core.Tie as tie
 
--- a row that is there has no more words than are taken of it
-row-whole : (n j : ℕ) (ds : List ℕ) → j < writersMax → take depsMax (rowAt n j ds) ≡ take n (part (depsMax * j)
-    depsMax ds)
-row-whole n j ds h = let e : min j writersMax ≡ j = omega arith in let r = part (depsMax * j) depsMax ds in
-    rw e (take-all depsMax (take n r) (omega (arith, length-take n r, length-take depsMax (drop (depsMax * j) ds))))
-
--- the row of the record that was found, in places
-deps-read : (m : Manager) (i : ℕ) {j : ℕ} {row : List ℕ} {ds : Deps}
+-- the row of the record that was found
+deps-read : (m : Manager) (i : ℕ) {j : ℕ}
     → Stands (opens i) (writersOf m) (m .writers .count) writersMax
       (view (part (depsMax * j) depsMax (m .deps)) (getD (m .writers .at) j noRw)) j
-    → row ≡ rowAt (getD (m .writers .at) j noRw .deps) j (m .deps) → ds ≡ depsWith (take depsMax row)
-    → ds ≡ depsWith (depsAt i m)
-deps-read m i {j} w r d = d ∙ ap depsWith (ap (take depsMax) r
-    ∙ (row-whole (getD (m .writers .at) j noRw .deps) j (m .deps) (omega (arith, w .below))
-    ∙ sym (ap (λ x. x .deps) (w .first noWriter))))
+    → rowAt (getD (m .writers .at) j noRw .deps) j (m .deps) ≡ depsAt i m
+deps-read m i {j} w = let e : min j writersMax ≡ j = omega (arith, w .below) in
+    rw e (sym (ap (λ x. x .deps) (w .first noWriter)))
 
 -- where the test of soundness was made, and where the function began
 
@@ -80,14 +68,13 @@ returns-2 c = let k = c .before .before in let a = k .before .before in
 
 returns-3 : tie.Need-returns-3
 unfolding rwLook
-returns-3 c = let ip = c .before in let ro = ip .before in
-    let j = ro .before .before .before .before .before in let f = j .before .before in
+returns-3 c = let d = c .before in
+    let j = d .before .before .before .before .before in let f = j .before .before in
     let k = f .before .before .before in let a = k .before .before in let s = start a in
     let m = managerIn (s .args .t1) in
     let w = writer-stands m _ (sized (s .args .t1) (s .good .0)) (f .find-writer .ensures) (j .j .given .1) in
-    let e = deps-read m (s .args .i) w (ro .row-of .ensures) (ip .in-places .ensures) in
-    rw (← sound a, ← a .admit .ensures, k .admitted2 .given .1, w .any)
-      (rw (← e) (c .scan-partition .ensures))
+    rw (← sound a, ← a .admit .ensures, k .admitted2 .given .1, w .any, ← deps-read m (s .args .i) w,
+      ← d .row-of .ensures) (c .scan-partition .ensures)
 
 pub rw-core-spec : {M : Type 1} → statement M
 rw-core-spec =
@@ -105,7 +92,6 @@ rw-core-spec =
     returns
     mul-n
     element-copy-out-n
-    (λ c κs. search needs)
     (λ c κs. search needs)
     (λ c κs. search needs)
     returns-2

@@ -18,7 +18,7 @@ returns c = c .refused .ensures
 returns-2 : tie.Need-returns-2
 unfolding lookAt
 returns-2 c =
-    let f = c .before .before .before in let n = f .before .bytes-for in let a = f .before .before .args in
+    let f = c .before .before .before in let n = f .before .bytes-for in let a = f .before .before .before .args in
     let r = c .before .scan .ensures in
     rw (le-ltb (a .k) (bytesFor (a .q .rows)) (rw (n .ensures) at (f .if1 .left)))
       (λ j. record { answer = Scanned (a .q .rows) (r .0 j .ones); bits = r .1 j; count = (n .ensures) j })

@@ -29,14 +29,14 @@ abbrev μ-loop : tie.MeasureT-loop
 
 loop-holds : tie.Need-loop-holds Inv-loop μ-loop
 unfolding seesView
-loop-holds c = let b = c .before .before in let a = b .before .args .t1 in
+loop-holds c = let b = c .before .before .before in let a = b .before .args .t1 in
     let long = area-length a _ (b .before .good .0) in
     let used = entries-used a (b .in-use .result) long (b .in-use .ensures) in
-    (search needs, b .in-use .ensures, long, refl, rw (used, c .before .page .ensures) at (c .find-top .ensures))
+    (search needs, b .in-use .ensures, long, refl, rw (used, c .before .before .page .ensures) at (c .find-top .ensures))
 
 loop-again : tie.Need-loop-again Inv-loop μ-loop
-loop-again c = let k = c .before .before in let s = k .before .before .before .before .before .args in
-    let a = s .t1 in let l = k .before .loop in let n = k .before .before .before .before .in-use .result in
+loop-again c = let k = c .before .before in let s = k .before .before .before .before .before .before .args in
+    let a = s .t1 in let l = k .before .loop in let n = k .before .before .before .before .before .in-use .result in
     let ss = spansIn a in let e = getD (a .at) (l .k) none in
     (search needs, l .inv .1, l .inv .2, rw (l .inv .3)
       (plan-next a n (l .inv .1) (l .inv .2) (purgeEpochs (s .l) ss ss) (length-purge (s .l) ss ss) (l .k)
@@ -46,7 +46,7 @@ loop-again c = let k = c .before .before in let s = k .before .before .before .b
           ∙ purge-here a n (l .inv .1) (l .inv .2) (l .k) (k .loop-test .taken) (s .l)))), l .inv .4)
 
 returns : tie.Need-returns Inv-loop μ-loop
-returns c = let b = c .before .before .before .before in let s = b .before .args in let l = c .before .loop in
+returns c = let b = c .before .before .before .before .before in let s = b .before .args in let l = c .before .loop in
     let ss = spansIn (s .t1) in
     rw (l .inv .3, plan-all (s .t1) (b .in-use .result) (l .inv .1) (l .inv .2) (purgeEpochs (s .l) ss ss)
       (length-purge (s .l) ss ss) (l .k) (c .loop-test .left))
@@ -54,6 +54,6 @@ returns c = let b = c .before .before .before .before in let s = b .before .args
 pub purge-plan-spec : {M : Type 1} → statement M
 purge-plan-spec =
     tie.close
-    (tie.spec Inv-loop μ-loop (λ c κs. search needs) (λ c κs. search needs) (λ c κs. search needs) loop-holds
-      (λ c. search needs) (λ c. search needs) (λ c κs. search needs) (λ c. search needs) (λ c. search needs)
+    (tie.spec Inv-loop μ-loop (λ c κs. search needs) (λ c κs. search needs) (λ c. search needs) (λ c κs. search needs)
+      loop-holds (λ c. search needs) (λ c. search needs) (λ c κs. search needs) (λ c. search needs) (λ c. search needs)
       (λ c. search needs) (λ c. search needs) loop-again returns)

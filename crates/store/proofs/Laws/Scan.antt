@@ -3,7 +3,7 @@
 -- Assumes nothing.
 use mathlib.Core.Path.{_≡_, refl, sym, ap, _∙_}
 use mathlib.Core.Bool.{Bool, true}
-use mathlib.Core.List.{List}
+use mathlib.Core.List.{List, []}
 use Prim.Native.Nat.{ℕ, _*_, _≤_, _<_}
 use native.Mathlib.Omega.{arith}
 use lib.ListN.{length, drop}
@@ -39,10 +39,7 @@ use Rattle.area.specs.Area.{entriesIn, areaAt}
 use Rattle.area.specs.Load.{loadedArea}
 use Rattle.area.proofs.Laws.Load.{loaded-area}
 use Rattle.admit.specs.Admit.{partitionOf}
-use Rattle.lists.proofs.Laws.Parts.{take-pad}
-use Rattle.rules.specs.Limits.{depsMax}
 use Rattle.rules.specs.Manager.{depsAt, managerIn}
-use Rattle.rules.specs.Sees.{seesRw}
 use Rattle.plan_scan.specs.Scan.{noBits, refusedLook, lookAt, rwView, roView, lookBy, rwLook, roLook, copied}
 use Rattle.plan_scan.specs.declared.Look.{Look}
 use Rattle.store.specs.Kept.{storeOf, Showed}
@@ -96,8 +93,8 @@ module _ (s : State) (es : List Entry) (rs : List ℕ) (ok : StoreOk (storeOf s 
   pub words : length (rowsAt p (storeOf s rs es)) ≡ partitionOf p s .rows
   words = let part = ok .partition p h in ap length (sym (part .words-are)) ∙ sym (part .row-count)
 
-  module _ (r : Reader) (v : View) (sees : seesView v ≡ seesOf r (managerIn s)) where
-    same-flags : spanFlags v (areaAt es (partitionOf p s)) (rowsAt p (storeOf s rs es)) ≡ flagsAt r p (storeOf s rs es)
+  module _ (r : Reader) (v : View) (deps : List ℕ) (sees : seesView v deps ≡ seesOf r (managerIn s)) where
+    same-flags : spanFlags v deps (areaAt es (partitionOf p s)) (rowsAt p (storeOf s rs es)) ≡ flagsAt r p (storeOf s rs es)
     unfolding flagsAt spansAt
     same-flags = rw (sees, applies-all r (managerIn s), table-entries)
 
@@ -106,16 +103,16 @@ module _ (s : State) (es : List Entry) (rs : List ℕ) (ok : StoreOk (storeOf s 
     flags-rows = length-flags (seesOf r (managerIn s)) (appliesOf r (managerIn s)) (spansAt p (storeOf s rs es))
         ∙ sym (ok .partition p h .row-count)
 
-    ones-are : scanned v (areaAt es (partitionOf p s)) (partitionOf p s .rows) noBits .ones
+    ones-are : scanned v deps (areaAt es (partitionOf p s)) (partitionOf p s .rows) noBits .ones
         ≡ ones (flagsAt r p (storeOf s rs es))
     ones-are = let q = partitionOf p s in
-        ap (λ x. x .ones) (scanned-spans v (areaAt es q) (q .rows) noBits (rowsAt p (storeOf s rs es)) scans words)
+        ap (λ x. x .ones) (scanned-spans v deps (areaAt es q) (q .rows) noBits (rowsAt p (storeOf s rs es)) scans words)
         ∙ ap ones same-flags
 
-    bits-are : bitmapScanned v (areaAt es (partitionOf p s)) (partitionOf p s .rows) noBits
+    bits-are : bitmapScanned v deps (areaAt es (partitionOf p s)) (partitionOf p s .rows) noBits
         ≡ bitmapAfter (flagsAt r p (storeOf s rs es)) noBits
     bits-are = let q = partitionOf p s in
-        bitmap-spans v (areaAt es q) (q .rows) noBits (rowsAt p (storeOf s rs es)) scans words
+        bitmap-spans v deps (areaAt es q) (q .rows) noBits (rowsAt p (storeOf s rs es)) scans words
         ∙ ap (λ f. bitmapAfter f noBits) same-flags
 
     scan-room : (lent : List ℕ)
@@ -123,7 +120,7 @@ module _ (s : State) (es : List Entry) (rs : List ℕ) (ok : StoreOk (storeOf s 
           (refuse ShortBitmap (ltb (length lent) (bytesFor (partitionOf p s .rows)))
           (Scanned (partitionOf p s .rows) (ones (flagsAt r p (storeOf s rs es)))))
           (flagsAt r p (storeOf s rs es)) lent (storeOf s rs es))
-          (lookAt (areaAt es (partitionOf p s)) (partitionOf p s) v (length lent))
+          (lookAt (areaAt es (partitionOf p s)) (partitionOf p s) v deps (length lent))
     unfolding lookAt
     scan-room lent = let q = partitionOf p s in let n = bytesFor (q .rows) in let st = storeOf s rs es in
         split (ltb (length lent) n)
@@ -133,17 +130,17 @@ module _ (s : State) (es : List Entry) (rs : List ℕ) (ok : StoreOk (storeOf s 
             (ltb-false (length lent) n f), refl))
 
 look-left : (s : State) → length (s .partitions .at) ≡ partitionsMax → (es : List Entry) (rs lent : List ℕ) (p : ℕ)
-    (r : Reader) (v : View) → seesView v ≡ seesOf r (managerIn s)
+    (r : Reader) (v : View) (deps : List ℕ) → seesView v deps ≡ seesOf r (managerIn s)
     → Carried lent (storeOf s rs es) (step (scan r p lent) (storeOf s rs es))
-      (lookBy (isReader r (managerIn s)) v s (restIn s es rs) (loadedArea es (s .partitions) p) (length lent) p)
+      (lookBy (isReader r (managerIn s)) v deps s (restIn s es rs) (loadedArea es (s .partitions) p) (length lent) p)
 unfolding step scanAnswer
-look-left s n es rs lent p r v sees = let st = storeOf s rs es in let flags = flagsAt r p st in
+look-left s n es rs lent p r v deps sees = let st = storeOf s rs es in let flags = flagsAt r p st in
     rw (sound-is s es rs) (split (wellFormed st)
   (λ t. let ok = store-facts st n t in rw (t, loaded-area es (ok .entries-length) (s .partitions) p)
     (split (leb partitionsMax p)
     (λ u. rw u (refused-left UnknownPartition s es rs lent flags))
     (λ u. split (isReader r (managerIn s))
-      (λ o. rw (u, o) (scan-room s es rs ok p (leb-false partitionsMax p u) r v sees lent))
+      (λ o. rw (u, o) (scan-room s es rs ok p (leb-false partitionsMax p u) r v deps sees lent))
       (λ o. rw (u, o) (refused-left NotOpen s es rs lent flags)))))
   (λ f. rw f (refused-left Unsound s es rs lent flags)))
 
@@ -154,10 +151,9 @@ module _ (s : State) (n : length (s .partitions .at) ≡ partitionsMax) (es : Li
   pub rw-left : Carried lent (storeOf s rs es) (step (scan (Rw i) p lent) (storeOf s rs es))
       (rwLook s (restIn s es rs) (loadedArea es (s .partitions) p) (length lent) i p)
   unfolding rwLook seesOf seesView
-  rw-left = let m = managerIn s in let e = take-pad depsMax 0 (depsAt i m) in
-      look-left s n es rs lent p (Rw i) (rwView i m) (ap (seesRw i) e)
+  rw-left = look-left s n es rs lent p (Rw i) (rwView i) (depsAt i (managerIn s)) refl
 
   pub ro-left : Carried lent (storeOf s rs es) (step (scan (Ro i) p lent) (storeOf s rs es))
       (roLook s (restIn s es rs) (loadedArea es (s .partitions) p) (length lent) i p)
   unfolding roLook seesOf seesView
-  ro-left = look-left s n es rs lent p (Ro i) (roView i (managerIn s)) refl
+  ro-left = look-left s n es rs lent p (Ro i) (roView i (managerIn s)) [] refl

@@ -29,19 +29,19 @@ module _ (t : Area) (rows : ℕ) (lent : List ℕ) where
 
 -- ---- over a partition's spans, whatever its words
 
-abbrev pub spanFlags : View → Area → List ℕ → List Bool
-spanFlags v t ws = flags (seesView v) (seesView v) (spans 0 (entriesIn t) ws)
+abbrev pub spanFlags : View → List ℕ → Area → List ℕ → List Bool
+spanFlags v deps t ws = flags (seesView v deps) (seesView v deps) (spans 0 (entriesIn t) ws)
 
-module _ (v : View) (t : Area) (rows : ℕ) (lent ws : List ℕ)
+module _ (v : View) (deps : List ℕ) (t : Area) (rows : ℕ) (lent ws : List ℕ)
     (ok : scanOk t rows lent ≡ true) (l : length ws ≡ rows) where
-  same-flags : tableFlags v t ≡ spanFlags v t ws
+  same-flags : tableFlags v deps t ≡ spanFlags v deps t ws
   unfolding scanOk
-  same-flags = flags-entries (seesView v) (seesView v) rows (entriesIn t) (and-left _ _ ok) ws l
+  same-flags = flags-entries (seesView v deps) (seesView v deps) rows (entriesIn t) (and-left _ _ ok) ws l
 
-  pub scanned-spans : scanned v t rows lent ≡ record { ones = ones (spanFlags v t ws) }
+  pub scanned-spans : scanned v deps t rows lent ≡ record { ones = ones (spanFlags v deps t ws) }
   unfolding scanned
   scanned-spans = rw (ok, same-flags)
 
-  pub bitmap-spans : bitmapScanned v t rows lent ≡ bitmapAfter (spanFlags v t ws) lent
+  pub bitmap-spans : bitmapScanned v deps t rows lent ≡ bitmapAfter (spanFlags v deps t ws) lent
   unfolding bitmapScanned
   bitmap-spans = rw (ok, same-flags)

@@ -17,10 +17,10 @@ use Rattle.visible.proofs.scan.Statement.{statement}
 use Rattle.visible.proofs.scan.Tie as tie
 
 -- the entries that the loops go over are those in use
-used : (c : tie.After-in-use) → let t = c .before .before .args .t in
+used : (c : tie.After-in-use) → let t = c .before .before .before .args .t in
     take (c .in-use .result) (t .at) ≡ entriesIn t
-used c = let s = c .before .before in let t = s .args .t in
-    entries-used t (c .in-use .result) (area-length t _ (s .good .1 .0)) (c .in-use .ensures)
+used c = let s = c .before .before .before in let t = s .args .t in
+    entries-used t (c .in-use .result) (area-length t _ (s .good .1 .1 .0)) (c .in-use .ensures)
 
 returns : tie.Need-returns
 unfolding scanned bitmapScanned scanOk
@@ -41,7 +41,7 @@ abbrev Tested : tie.After-write-arg → tie.After-ends-ok
 Tested c = c .before .before .before .before .before
 
 abbrev S : tie.After-write-arg → tie.Start
-S c = Tested c .before .before .before
+S c = Tested c .before .before .before .before
 
 ends : (c : tie.After-write-arg)
     → endsOk (S c .args .rows) 0 (take (Tested c .before .in-use .result) (S c .args .t .at)) ≡ true

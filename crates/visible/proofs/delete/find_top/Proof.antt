@@ -19,28 +19,28 @@ use Rattle.visible.proofs.delete.find_top.Statement.{statement}
 use Rattle.visible.proofs.delete.find_top.Tie as tie
 
 abbrev Inv-loop : tie.InvT-loop
-Inv-loop v n t m top₀ i₀ top i = (i ≤ m) × (m ≡ min n entriesMax) × (length (t .at) ≡ entriesMax)
-    × (topDelete (seesView v) (bare 0 (take n (t .at)))
-    ≡ topFrom (seesView v) i (asTop top) (bare 0 (drop i (take n (t .at)))))
+Inv-loop v deps n t m top₀ i₀ top i = (i ≤ m) × (m ≡ min n entriesMax) × (length (t .at) ≡ entriesMax)
+    × (topDelete (seesView v deps) (bare 0 (take n (t .at)))
+    ≡ topFrom (seesView v deps) i (asTop top) (bare 0 (drop i (take n (t .at)))))
 
 abbrev μ-loop : tie.MeasureT-loop
-μ-loop v n t m top₀ i₀ top i = m - i
+μ-loop v deps n t m top₀ i₀ top i = m - i
 
 loop-holds : tie.Need-loop-holds Inv-loop μ-loop
-loop-holds c = let s = c .before in (omega arith, c .in-use .ensures, area-length (s .args .t2) _ (s .good .1 .0), refl)
+loop-holds c = let s = c .before .before in (omega arith, c .in-use .ensures, area-length (s .args .t3) _ (s .good .1 .1 .0), refl)
 
 loop-again : tie.Need-loop-again Inv-loop μ-loop
-loop-again c = let l = c .before .before .before .loop in let a = c .before .before .before .before .before .args in
-    let at = a .t2 .at in let u = l .inv .1 in
+loop-again c = let l = c .before .before .before .loop in let a = c .before .before .before .before .before .before .args in
+    let at = a .t3 .at in let u = l .inv .1 in
     (search needs, l .inv .1, l .inv .2, rw (c .top-step .ensures) (l .inv .3
       ∙ rw (used-next at (a .n) entriesMax (l .inv .2) none (l .i) (omega arith))
-        (top-next (seesView (a .v)) (l .i) (asTop (l .top)) (getD at (l .i) none) 0 0
+        (top-next (seesView (a .v) (a .deps .now)) (l .i) (asTop (l .top)) (getD at (l .i) none) 0 0
           (drop (l .i + 1) (take (a .n) at)))))
 
 returns : tie.Need-returns Inv-loop μ-loop
 unfolding bare topFrom
-returns c = let l = c .before .loop in let a = c .before .before .before .args in let u = l .inv .1 in
-    sym (l .inv .3 ∙ rw (used-end (a .t2 .at) (a .n) entriesMax (l .inv .2) (l .i) (omega arith)))
+returns c = let l = c .before .loop in let a = c .before .before .before .before .args in let u = l .inv .1 in
+    sym (l .inv .3 ∙ rw (used-end (a .t3 .at) (a .n) entriesMax (l .inv .2) (l .i) (omega arith)))
 
 pub find-top-spec : {M : Type 1} → statement M
 find-top-spec =

@@ -7,11 +7,11 @@ use Rattle.visible.proofs.rows.show_front.Statement.{statement}
 use Rattle.visible.proofs.rows.show_front.Tie as tie
 
 slice-aggregate-show : tie.Need-slice-aggregate-show
-slice-aggregate-show c = let s = c .before .before in
+slice-aggregate-show c = let s = c .before .before .before in
     sym (length-take-le (s .args .rows) (s .args .shown .now) (s .pre .1))
 
 show-requires : tie.Need-show-requires
-show-requires c κs = let s = c .before .before in
+show-requires c κs = let s = c .before .before .before in
     (s .pre .0, rw (length-take-le (s .args .rows) (s .args .shown .now) (s .pre .1)) (s .pre .2))
 
 returns : tie.Need-returns

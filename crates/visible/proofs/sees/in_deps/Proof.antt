@@ -1,48 +1,35 @@
--- `visible::sees::in_deps` meets its contract. The invariant: j is among the deps in use exactly if it is
--- among those from i on. The measure is what is left of n.
+-- `visible::sees::in_deps` meets its contract. The invariant: j is among the deps exactly if it is among those from i
+-- on. The measure is what is left of them.
 -- Assumes nothing.
-use Prim.Native.Nat.{_-_, _≤_, min}
+use Prim.Native.Nat.{_-_, _≤_}
 use mathlib.Core.Path.{_≡_, refl, sym, _∙_}
-use mathlib.Core.Bool.{true, false}
-use native.Mathlib.Omega.{arith}
 use borrow.Author.Needs.{needs}
 use borrow.Author.Tests.{eq-eqb, ne-eqb}
-use lib.Dec.{eqb}
-use lib.ListN.{length, take, drop}
-use Rattle.rules.specs.Limits.{depsMax}
+use lib.ListN.{length, drop, drop-of-length-le}
 use Rattle.lists.specs.Lists.{elem}
-use Rattle.lists.proofs.Laws.Places.{unmapped, any-next, any-end}
+use Rattle.lists.proofs.Laws.Places.{from-next}
 use Rattle.visible.proofs.sees.in_deps.Statement.{statement}
 use Rattle.visible.proofs.sees.in_deps.Tie as tie
 
 abbrev Inv-loop : tie.InvT-loop
-Inv-loop j d n i₀ i =
-    (i ≤ n) × (n ≡ min (d .count) depsMax) × (length (d .at) ≡ depsMax)
-    × (elem j (take (d .count) (d .at)) ≡ elem j (drop i (take (d .count) (d .at))))
+Inv-loop deps j i₀ i = (i ≤ length deps) × (elem j deps ≡ elem j (drop i deps))
 
 abbrev μ-loop : tie.MeasureT-loop
-μ-loop j d n i₀ i = n - i
-
-loop-holds : tie.Need-loop-holds Inv-loop μ-loop
-loop-holds c = let s = c .before in
-    (search needs, c .in-use .ensures, unmapped _ (s .args .t1 .at) depsMax (s .good .0 .1 .1 .0 .1 .0 .1), refl)
+μ-loop deps j i₀ i = length deps - i
 
 returns : tie.Need-returns Inv-loop μ-loop
-returns c = let b = c .before .before .before in let l = b .loop in let a = b .before .before .args in
-    let u = l .inv .1 in
-    sym (l .inv .3 ∙ any-next (a .t1 .at) (a .t1 .count) depsMax (l .inv .2) (eqb (a .j)) 0 (l .i) true (omega arith)
-      (eq-eqb _ _ (c .if1 .taken)))
+returns c = let b = c .before .before .before in let l = b .loop in let a = b .before .args in
+    sym (l .inv .1 ∙ rw (from-next (a .deps .now) 0 (l .i) (c .before .before .loop-test .taken),
+      eq-eqb _ _ (c .if1 .taken)))
 
 loop-again : tie.Need-loop-again Inv-loop μ-loop
-loop-again c = let b = c .before .before .before in let l = b .loop in let a = b .before .before .args in
-    let u = l .inv .1 in
-    (search needs, l .inv .1, l .inv .2, l .inv .3
-      ∙ any-next (a .t1 .at) (a .t1 .count) depsMax (l .inv .2) (eqb (a .j)) 0 (l .i) false (omega arith)
-        (ne-eqb _ _ (c .if1 .left)))
+loop-again c = let b = c .before .before .before in let l = b .loop in let a = b .before .args in
+    (search needs, l .inv .1
+      ∙ rw (from-next (a .deps .now) 0 (l .i) (c .before .before .loop-test .taken), ne-eqb _ _ (c .if1 .left)))
 
 returns-2 : tie.Need-returns-2 Inv-loop μ-loop
-returns-2 c = let l = c .before .loop in let a = c .before .before .before .args in let u = l .inv .1 in
-    sym (l .inv .3 ∙ any-end (a .t1 .at) (a .t1 .count) depsMax (l .inv .2) (eqb (a .j)) (l .i) (omega arith))
+returns-2 c = let l = c .before .loop in let a = c .before .before .args in
+    sym (l .inv .1 ∙ rw (drop-of-length-le (a .deps .now) (c .loop-test .left)))
 
 pub in-deps-spec : {M : Type 1} → statement M
 in-deps-spec =
@@ -50,8 +37,7 @@ in-deps-spec =
     (tie.spec
     Inv-loop
     μ-loop
-    (λ c κs. search needs)
-    loop-holds
+    (λ c. (search needs, refl))
     (λ c. search needs)
     (λ c. search needs)
     returns

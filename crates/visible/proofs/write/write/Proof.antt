@@ -19,20 +19,20 @@ use Rattle.visible.proofs.write.write.Tie as tie
 
 pack-requires : tie.Need-pack-requires
 unfolding bytesFor
-pack-requires c κs = let k = c .before .before .before .before in let s = k .before .before .before .before in
+pack-requires c κs = let k = c .before .before .before .before in let s = k .before .before .before .before .before in
     let e = c .before .bytes-for .ensures in
-    (omega (arith, e, s .pre .1, k .show-front .kept .1 .1 .1 .1 .1 .0), rw e (s .pre .3))
+    (omega (arith, e, s .pre .1, k .show-front .kept .1 .1 .1 .1 .1 .1 .0), rw e (s .pre .3))
 
 returns : tie.Need-returns
 returns c = let b = c .before .before .before .before in let r = b .before .before .before in
-    let f = r .before .before in let s = f .before .before in let a = s .args in let es = take (a .n) (a .t .at) in
-    let same : flagsUnder (a .v) (f .find-top .result) es ≡ viewFlags (a .v) es =
-      rw (f .find-top .ensures) (sym (flagsOf-top (seesView (a .v)) (seesView (a .v)) es)) in
-    let all = length-flagsOf (seesView (a .v)) (seesView (a .v)) (a .rows) es (s .pre .2) in
+    let f = r .before .before in let s = f .before .before .before in let a = s .args in let es = take (a .n) (a .t .at) in
+    let same : flagsUnder (a .v) (a .deps .now) (f .find-top .result) es ≡ viewFlags (a .v) (a .deps .now) es =
+      rw (f .find-top .ensures) (sym (flagsOf-top (seesView (a .v) (a .deps .now)) (seesView (a .v) (a .deps .now)) es)) in
+    let all = length-flagsOf (seesView (a .v) (a .deps .now)) (seesView (a .v) (a .deps .now)) (a .rows) es (s .pre .2) in
     (rw (r .show-front .ensures .0, same),
      rw (c .before .before .pack .ensures, b .bytes-for .ensures, r .show-front .ensures .1, same,
          drop-false (a .rows) rowsMax)
-     (bitmap-pad (a .rows) (rowsMax - a .rows) (viewFlags (a .v) es) (now (a .bitmap)) all))
+     (bitmap-pad (a .rows) (rowsMax - a .rows) (viewFlags (a .v) (a .deps .now) es) (now (a .bitmap)) all))
 
 pub write-spec : {M : Type 1} → statement M
 write-spec =
