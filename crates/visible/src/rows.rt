@@ -21,10 +21,10 @@ ghost use Rattle.visible.specs.Passes.{asTop, flagsUnder};
 fn shows(v: View, deps: &[u64], top: Top, e: Entry, i: usize) -> bool
     ensures { λ r. ⌜ r ≡ (seesView v (now (deps .entry)) (e .epoch) && not (covers (asTop top) i (e .epoch))) ⌝ }
 {
-    if !sees(v, deps, e.epoch) {
+    if hides(top, i, e.epoch) {
         return false;
     }
-    !hides(top, i, e.epoch)
+    sees(v, deps, e.epoch)
 }
 
 // b at each index from `from` up to, not including, `to`; answers how many are made true.
