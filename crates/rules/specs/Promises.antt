@@ -110,6 +110,7 @@ HistoryReloads =
 -- ---- a load lands whole: of a load in its snapshot a reader is shown, in every partition, all rows but those that a
 -- clearing hides which the reader applies; of any other load it is shown no row, in any partition
 
+-- the marks in its snapshot
 abbrev pub marksIn : Reader → Ledger → List ℕ
 marksIn (Rw i) g = marksOf i (g .writers)
 marksIn (Ro t) g = marksOf t (g .readers)
