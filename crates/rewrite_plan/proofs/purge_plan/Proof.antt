@@ -32,7 +32,8 @@ unfolding seesView
 loop-holds c = let b = c .before .before .before in let a = b .before .args .t1 in
     let long = area-length a _ (b .before .good .0) in
     let used = entries-used a (b .in-use .result) long (b .in-use .ensures) in
-    (search needs, b .in-use .ensures, long, refl, rw (used, c .before .before .page .ensures) at (c .find-top .ensures))
+    (search needs, b .in-use .ensures, long, refl,
+      rw (used, c .before .before .page .ensures) at (c .find-top .ensures))
 
 loop-again : tie.Need-loop-again Inv-loop μ-loop
 loop-again c = let k = c .before .before in let s = k .before .before .before .before .before .before .args in

@@ -94,7 +94,8 @@ module _ (s : State) (es : List Entry) (rs : List ℕ) (ok : StoreOk (storeOf s 
   words = let part = ok .partition p h in ap length (sym (part .words-are)) ∙ sym (part .row-count)
 
   module _ (r : Reader) (v : View) (deps : List ℕ) (sees : seesView v deps ≡ seesOf r (managerIn s)) where
-    same-flags : spanFlags v deps (areaAt es (partitionOf p s)) (rowsAt p (storeOf s rs es)) ≡ flagsAt r p (storeOf s rs es)
+    same-flags : spanFlags v deps (areaAt es (partitionOf p s)) (rowsAt p (storeOf s rs es))
+        ≡ flagsAt r p (storeOf s rs es)
     unfolding flagsAt spansAt
     same-flags = rw (sees, applies-all r (managerIn s), table-entries)
 

@@ -27,10 +27,12 @@ abbrev μ-loop : tie.MeasureT-loop
 μ-loop v deps n t m top₀ i₀ top i = m - i
 
 loop-holds : tie.Need-loop-holds Inv-loop μ-loop
-loop-holds c = let s = c .before .before in (omega arith, c .in-use .ensures, area-length (s .args .t3) _ (s .good .1 .1 .0), refl)
+loop-holds c = let s = c .before .before in
+    (omega arith, c .in-use .ensures, area-length (s .args .t3) _ (s .good .1 .1 .0), refl)
 
 loop-again : tie.Need-loop-again Inv-loop μ-loop
-loop-again c = let l = c .before .before .before .loop in let a = c .before .before .before .before .before .before .args in
+loop-again c = let l = c .before .before .before .loop in
+    let a = c .before .before .before .before .before .before .args in
     let at = a .t3 .at in let u = l .inv .1 in
     (search needs, l .inv .1, l .inv .2, rw (c .top-step .ensures) (l .inv .3
       ∙ rw (used-next at (a .n) entriesMax (l .inv .2) none (l .i) (omega arith))

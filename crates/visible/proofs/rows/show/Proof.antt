@@ -30,7 +30,8 @@ loop-holds c = let a = c .before .before .args in let at = a .t3 .at in (
   search needs,
   area-length (a .t3) _ (c .before .before .good .1 .1 .0),
   refl,
-  laid-none (seesView (a .v) (a .deps .now)) (asTop (a .top)) (take (a .n) at) (a .shown .now) (c .before .before .pre .1),
+  laid-none (seesView (a .v) (a .deps .now)) (asTop (a .top)) (take (a .n) at) (a .shown .now)
+    (c .before .before .pre .1),
 )
 
 -- in a turn: the entry at i, and those after it
@@ -53,8 +54,8 @@ here k = let h = S k .pre .0 in
 turn : (k : tie.In-loop Inv-loop μ-loop) → let a = S k .args in let l = k .before .loop in
     Turn (seesView (a .v) (a .deps .now)) (asTop (a .top)) (Es k) (l .i) (l .from) (l .count) (l .shown) (E k)
 turn k = let a = S k .args in let l = k .before .loop in
-    laid-turn (seesView (a .v) (a .deps .now)) (asTop (a .top)) (Es k) (l .i) (l .from) (l .count) (l .shown) (l .inv .3) (E k)
-      (here k)
+    laid-turn (seesView (a .v) (a .deps .now)) (asTop (a .top)) (Es k) (l .i) (l .from) (l .count) (l .shown)
+      (l .inv .3) (E k) (here k)
 
 fill-requires : tie.Need-fill-requires Inv-loop μ-loop
 fill-requires c κs = let t = turn (c .before .before .before) in (t .low, t .high)
@@ -65,7 +66,8 @@ this c = c .before .before .before .before .before .before
 
 next : (c : tie.After-slice-known2 Inv-loop μ-loop) → let k = this c in let a = S k .args in let l = k .before .loop in
     let r = c .before .before .fill in
-    Laid (seesView (a .v) (a .deps .now)) (asTop (a .top)) (Es k) (l .i + 1) (E k .end) (l .count + r .result) (r .last .0)
+    Laid (seesView (a .v) (a .deps .now)) (asTop (a .top)) (Es k) (l .i + 1) (E k .end) (l .count + r .result)
+      (r .last .0)
 next c = let r = c .before .before .fill in let b = c .before .before .before .before .shows in
     turn (this c) .next (b .result) (r .result) (r .last .0) (b .ensures) (r .ensures .0) (r .ensures .1)
 

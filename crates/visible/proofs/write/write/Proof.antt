@@ -25,10 +25,11 @@ pack-requires c κs = let k = c .before .before .before .before in let s = k .be
 
 returns : tie.Need-returns
 returns c = let b = c .before .before .before .before in let r = b .before .before .before in
-    let f = r .before .before in let s = f .before .before .before in let a = s .args in let es = take (a .n) (a .t .at) in
+    let f = r .before .before in let s = f .before .before .before in let a = s .args in
+    let es = take (a .n) (a .t .at) in let sees = seesView (a .v) (a .deps .now) in
     let same : flagsUnder (a .v) (a .deps .now) (f .find-top .result) es ≡ viewFlags (a .v) (a .deps .now) es =
-      rw (f .find-top .ensures) (sym (flagsOf-top (seesView (a .v) (a .deps .now)) (seesView (a .v) (a .deps .now)) es)) in
-    let all = length-flagsOf (seesView (a .v) (a .deps .now)) (seesView (a .v) (a .deps .now)) (a .rows) es (s .pre .2) in
+      rw (f .find-top .ensures) (sym (flagsOf-top sees sees es)) in
+    let all = length-flagsOf sees sees (a .rows) es (s .pre .2) in
     (rw (r .show-front .ensures .0, same),
      rw (c .before .before .pack .ensures, b .bytes-for .ensures, r .show-front .ensures .1, same,
          drop-false (a .rows) rowsMax)
