@@ -1,7 +1,7 @@
 -- Which rows a delete hides, and which a reader is shown. 01 "Who sees a row".
--- In order: hidden, flags. Laws: laws/proofs/Laws/Hides.antt.
+-- In order: hidden, flags, shown. Laws: laws/proofs/Laws/Hides.antt.
 -- Assumes nothing.
-use mathlib.Core.Bool.{Bool, not, _&&_, _||_}
+use mathlib.Core.Bool.{Bool, not, _&&_, _||_, cond}
 use mathlib.Core.List.{List, [], _∷_, _++_}
 use Prim.Native.Nat.{ℕ}
 use lib.ListN.{length, replicate}
@@ -26,3 +26,12 @@ flagsIn sees applies all (s ∷ ss) =
 
 unfoldable pub flags : (ℕ → Bool) → (ℕ → Bool) → List Span → List Bool
 flags sees applies ss = flagsIn sees applies ss ss
+
+-- the words of the rows that are shown, in order
+unfoldable pub shownIn : (ℕ → Bool) → (ℕ → Bool) → List Span → List Span → List ℕ
+shownIn sees applies all [] = []
+shownIn sees applies all (s ∷ ss) =
+    cond (sees (s .epoch) && not (hidden applies all (s ∷ ss) (s .epoch))) (s .words) [] ++ shownIn sees applies all ss
+
+unfoldable pub shown : (ℕ → Bool) → (ℕ → Bool) → List Span → List ℕ
+shown sees applies ss = shownIn sees applies ss ss

@@ -8,6 +8,7 @@ pub mod Span
 pub mod Append
 pub mod Sees
 pub mod Hides
+pub mod Weight
 pub mod Top
 pub mod Bare
 pub mod Rewrite
