@@ -1,0 +1,4 @@
+pub mod Places
+pub mod Reach
+pub mod Weighed
+pub mod Landing
