@@ -10,12 +10,12 @@ use Rattle.lists.specs.Lists.{over}
 use Rattle.rules.specs.Limits.{lastEpoch, lastTicket}
 use Rattle.rules.specs.Manager.{Writer, writer, readersOf, withClock, withEc, withLse, withWriters, withReaders}
 use Rattle.rules.specs.Span.{Span, wordsOf, entriesOf}
-use Rattle.rules.specs.Store.{Store, managerOf, stateOf, withManager, laid, laidInPlace}
+use Rattle.rules.specs.Store.{Store, managerOf, stateOf, withManager, withTotals, laid, laidInPlace}
 use Rattle.rules.specs.Step.{Call, create, begin, append, clear, commit, rollback, beginRo, endRo, scan}
 use Rattle.rules.specs.Step.{advanceLse, purge, run}
 use Rattle.rules.specs.declared.Reader.{Reader}
 use Rattle.rules.specs.declared.Reader.the-variants.{Rw, Ro}
-use Rattle.rules.proofs.Look.{made, Look, linesOf, bytesTo, entriesIn, Case, observed, alike, agree, agree-eq}
+use Rattle.rules.proofs.Look.{made, Look, linesOf, bytesTo, entriesIn, totalsLeft, Case, observed, alike, agree, agree-eq}
 
 -- a line that is only a number, a line of 0 and a value, and that of a commit or roll back: LCE, the oldest open epoch
 only : ℕ → List ℕ
@@ -59,10 +59,27 @@ gap : Store
 gap =
     let st = run (begin ∷ begin ∷ commit 1 ∷ beginRo 0 ∷ commit 2 ∷ []) (made 1) in record {
       state = stateOf (managerOf st) (record {
-        at = set (st .state .partitions .at) 0 (record { area = 0; rows = 3; entries = 2 }); spare = 8 });
+        at = set (st .state .partitions .at) 0 (record { area = 0; rows = 3; entries = 2 }); spare = 8 })
+        (st .state .totals);
       rows = st .rows;
       entries = over 0 (record { epoch = 1; end = 2; mark = 0 } ∷ record { epoch = 2; end = 3; mark = 1 } ∷ []) (st
           .entries) }
+
+-- 02 (iii): 5 and 7 of load 1, which landed, 9 of load 2, which is open; a row of partition 1 that load 1 cleared
+weighed : Store
+weighed =
+    run (begin ∷ append 1 0 (4294967301 ∷ 7 ∷ []) ∷ append 1 1 (3 ∷ []) ∷ clear 1 1 ∷ begin ∷ append 2 0 (9 ∷ []) ∷ commit 1
+      ∷ []) (made 1)
+
+-- its rows, from row i on, or its totals, overwritten
+rowsSpoilt : ℕ → List ℕ → Store
+rowsSpoilt i ws = record { state = weighed .state; rows = over i ws (weighed .rows); entries = weighed .entries }
+
+totalsSpoilt : List ℕ → Store
+totalsSpoilt ts = withTotals (over 0 ts (weighed .state .totals)) weighed
+
+totals : ℕ → List ℕ
+totals n = n ∷ replicate 7 0
 
 pub edges : List Case
 edges =
@@ -118,12 +135,32 @@ edges =
     ∷ case gap (endRo 1 ∷ advanceLse 1 ∷ purge 0 ∷ []) (entriesIn 0) ((1 ∷ 2 ∷ 0 ∷ []) ∷ (2 ∷ 3 ∷ 1 ∷ []) ∷ [])
     ∷ case gap (endRo 1 ∷ advanceLse 2 ∷ []) (linesOf (purge 0 ∷ beginRo 0 ∷ look (Ro 2) ∷ [])) (ok 1 ∷ ok 2 ∷ only
         0 ∷ [])
+    -- 02 (iii): a row's low 32 bits are milligrams; an open transaction's rows, and hidden ones, are not in the total
+    ∷ case weighed [] totalsLeft (totals 12 ∷ [])
+    ∷ case (made 1) (begin ∷ append 1 0 (replicate 512 18446744073709551615) ∷ commit 1 ∷ []) totalsLeft
+      (totals 2199023255040 ∷ [])
+    -- it moves with roll back as with commit, a clearing that lands takes out what it hides, and purge leaves it
+    ∷ case (made 1) (begin ∷ begin ∷ append 1 0 (4 ∷ []) ∷ append 2 0 (8 ∷ []) ∷ commit 2 ∷ []) totalsLeft (totals 0 ∷ [])
+    ∷ case (made 1) (begin ∷ begin ∷ append 1 0 (4 ∷ []) ∷ append 2 0 (8 ∷ []) ∷ commit 2 ∷ rollback 1 ∷ []) totalsLeft
+      (totals 8 ∷ [])
+    ∷ case (made 1) (begin ∷ append 1 0 (4 ∷ []) ∷ commit 1 ∷ begin ∷ clear 2 0 ∷ append 2 0 (6 ∷ []) ∷ []) totalsLeft
+      (totals 4 ∷ [])
+    ∷ case (made 1) (begin ∷ append 1 0 (4 ∷ []) ∷ commit 1 ∷ begin ∷ clear 2 0 ∷ append 2 0 (6 ∷ []) ∷ commit 2
+        ∷ advanceLse 0 ∷ purge 0 ∷ []) totalsLeft (totals 6 ∷ [])
+    -- a total that is not the sum is unsound, so a shown row whose low bits are others; high bits, a row of an open
+    -- transaction, a hidden one, one behind the rows in use, and two shown rows swapped are not
+    ∷ case (totalsSpoilt (13 ∷ [])) [] (linesOf (begin ∷ [])) (only 5 ∷ [])
+    ∷ case (totalsSpoilt (12 ∷ 1 ∷ [])) [] (linesOf (begin ∷ [])) (only 5 ∷ [])
+    ∷ case (rowsSpoilt 0 (4294967302 ∷ [])) [] (linesOf (begin ∷ [])) (only 5 ∷ [])
+    ∷ case (rowsSpoilt 0 (8589934597 ∷ [])) [] (linesOf (begin ∷ [])) (ok 3 ∷ [])
+    ∷ case (rowsSpoilt 0 (7 ∷ 5 ∷ 10 ∷ 1 ∷ [])) [] (linesOf (begin ∷ [])) (ok 3 ∷ [])
+    ∷ case (rowsSpoilt 512 (8 ∷ [])) [] (linesOf (begin ∷ [])) (ok 3 ∷ [])
     -- a ticket is not used again
     ∷ case (made 1) (beginRo 0 ∷ endRo 1 ∷ []) (linesOf (beginRo 0 ∷ endRo 1 ∷ [])) (ok 2 ∷ only 2 ∷ [])
     ∷ []
 
 pub edges-hold : map observed edges ≡ map (λ c. c .expected) edges
-unfolding agree alike observed edges gap case look closed ok only lastEpoch
+unfolding agree alike observed edges gap weighed rowsSpoilt totalsSpoilt totals case look closed ok only lastEpoch
 edges-hold = agree-eq (map observed edges) (map (λ c. c .expected) edges) refl
 
 -- ---- the order of the refusals: each neighbouring pair of each call, both of which hold

@@ -19,14 +19,15 @@ use Rattle.rules.specs.Safe.{blocked, greatestTarget, targetOf, advanced
 use Rattle.rules.specs.Span.{spans, entriesOf, wordsOf}
 use Rattle.rules.specs.Append.{extended, appended, cleared}
 use Rattle.rules.specs.Sees.{seesRw, appliesRw}
-use Rattle.rules.specs.Hides.{hidden, flagsIn, flags}
+use Rattle.rules.specs.Hides.{hidden, flagsIn, flags, shownIn, shown}
+use Rattle.rules.specs.Weight.{weight, weightBy, total}
 use Rattle.rules.specs.Rewrite.{joinedOnto, joined, hasEpoch, rolledBack, purgedIn, purged, skips}
 use Rattle.rules.specs.Bitmap.{bytesFor, byteOf, packed, bitmapAfter}
 use Rattle.rules.specs.Store.{Store, entriesAt, spansAt, laid, laidInPlace, laidInSpare, createdStore}
-use Rattle.rules.specs.Store.{stateOf, rolledBackAt, rolledBackBelow, purgedStore}
+use Rattle.rules.specs.Store.{stateOf, totalAt, totalsOf, refreshed, rolledBackAt, rolledBackBelow, purgedStore}
 use Rattle.rules.specs.Answers.{replyOf, firstValue, secondValue}
 use Rattle.rules.specs.WellFormed.{clockOk, depsOk, statusOk, writersOk, readersOk, managerOk, areasOk}
-use Rattle.rules.specs.WellFormed.{epochOk, endsOk, apart, partitionOk, lengthsOk, wellFormed}
+use Rattle.rules.specs.WellFormed.{epochOk, endsOk, apart, partitionOk, lengthsOk, wellFormed, totalsOk, sound}
 use Rattle.rules.specs.Calls.{createAnswer, beginAnswer, appendAnswer, clearAnswer, closeAnswer}
 use Rattle.rules.specs.Calls.{beginRoAnswer, endRoAnswer, seesOf, appliesOf, flagsAt, scanAnswer}
 use Rattle.rules.specs.Calls.{advanceLseAnswer, purgeAnswer}
@@ -38,7 +39,7 @@ use Rattle.rules.specs.declared.Reader.{Reader}
 unfoldable pub made : ℕ → Store
 made s =
     step (create s) (record {
-      state = stateOf (createdManager 5) (record { at = []; spare = 3 });
+      state = stateOf (createdManager 5) (record { at = []; spare = 3 }) (4 ∷ []);
       rows = replicate (rowsMax * areasMax) 77;
       entries = replicate (entriesMax * areasMax) (record { epoch = 9; end = 9; mark = 9 }) }) .store
 
@@ -64,6 +65,8 @@ pub data Look : Type 0 where
   bytesTo : Reader → ℕ → List ℕ → Look
   -- the entries of a partition: epoch, end, mark
   entriesIn : ℕ → Look
+  -- the totals of all partitions
+  totalsLeft : Look
 
 -- the first n bits from row i on
 unfoldable pub bits : ℕ → ℕ → List ℕ → List ℕ
@@ -78,6 +81,7 @@ looked (bytesTo r p lent) st =
     let out = step (scan r p lent) st in
     let reply = replyOf (out .answer) in (reply .number ∷ firstValue reply ∷ secondValue reply ∷ []) ∷ out .bitmap ∷ []
 looked (entriesIn p) st = map (λ e. e .epoch ∷ e .end ∷ e .mark ∷ []) (entriesAt p st)
+looked totalsLeft st = st .state .totals ∷ []
 
 pub record Case : Type 0 where
   pub start : Store
@@ -92,7 +96,8 @@ unfolding made line lines bits looked lastEpoch lastTicket createdManager begunM
     cleared seesRw appliesRw hidden flagsIn flags joinedOnto joined hasEpoch rolledBack purgedIn purged skips
     bytesFor byteOf packed bitmapAfter spansAt laid laidInPlace laidInSpare createdStore rolledBackAt
     rolledBackBelow purgedStore clockOk depsOk statusOk writersOk readersOk managerOk areasOk epochOk endsOk
-    apart partitionOk lengthsOk wellFormed createAnswer beginAnswer appendAnswer clearAnswer closeAnswer
+    apart partitionOk lengthsOk wellFormed shownIn shown weight weightBy total totalAt totalsOf refreshed totalsOk
+    sound createAnswer beginAnswer appendAnswer clearAnswer closeAnswer
     beginRoAnswer endRoAnswer seesOf appliesOf flagsAt scanAnswer advanceLseAnswer purgeAnswer step run
     wordsAtOnes
 observed c = looked (c .look) (run (c .calls) (c .start))

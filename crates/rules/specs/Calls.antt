@@ -24,7 +24,7 @@ use Rattle.rules.specs.Hides.{flags}
 use Rattle.rules.specs.Rewrite.{purged, skips}
 use Rattle.rules.specs.Bitmap.{bytesFor}
 use Rattle.rules.specs.Store.{Store, managerOf, partitionAt, spansAt}
-use Rattle.rules.specs.WellFormed.{wellFormed}
+use Rattle.rules.specs.WellFormed.{sound}
 use Rattle.rules.specs.Manager.{Manager}
 use Rattle.rules.specs.declared.Reader.{Reader}
 use Rattle.rules.specs.declared.Reader.the-variants.{Rw, Ro}
@@ -109,7 +109,7 @@ managerAfter (AdvanceLse t) m = advancedManager t m
 
 unfoldable pub appendAnswer : ℕ → ℕ → List ℕ → Store → Answer
 appendAnswer i p batch st =
-    refuse Unsound (not (wellFormed st))
+    refuse Unsound (not (sound st))
     (refuse UnknownPartition (leb partitionsMax p)
     (refuse NotOpen (not (hasOpen i (managerOf st)))
     (refuse RowsFull (ltb (rowsMax - partitionAt p st .rows) (length batch))
@@ -118,7 +118,7 @@ appendAnswer i p batch st =
 
 unfoldable pub clearAnswer : ℕ → ℕ → Store → Answer
 clearAnswer i p st =
-    refuse Unsound (not (wellFormed st))
+    refuse Unsound (not (sound st))
     (refuse UnknownPartition (leb partitionsMax p)
     (refuse NotOpen (not (hasOpen i (managerOf st)))
     (refuse EntriesFull (leb entriesMax (partitionAt p st .entries))
@@ -126,7 +126,7 @@ clearAnswer i p st =
 
 unfoldable pub purgeAnswer : ℕ → Store → Answer
 purgeAnswer p st =
-    refuse Unsound (not (wellFormed st))
+    refuse Unsound (not (sound st))
     (refuse UnknownPartition (leb partitionsMax p)
     (cond (skips (managerOf st .clock .lse) (spansAt p st))
     (Skipped (partitionAt p st .rows))
@@ -152,7 +152,7 @@ flagsAt r p st = flags (seesOf r (managerOf st)) (appliesOf r (managerOf st)) (s
 
 unfoldable pub scanAnswer : Reader → ℕ → List ℕ → Store → Answer
 scanAnswer r p lent st =
-    refuse Unsound (not (wellFormed st))
+    refuse Unsound (not (sound st))
     (refuse UnknownPartition (leb partitionsMax p)
     (refuse NotOpen (not (isReader r (managerOf st)))
     (refuse ShortBitmap (ltb (length lent) (bytesFor (partitionAt p st .rows)))

@@ -11,9 +11,9 @@ use Rattle.rules.specs.Close.{rolledBackManager}
 use Rattle.rules.specs.Append.{appended, cleared}
 use Rattle.rules.specs.Bitmap.{bitmapAfter}
 use Rattle.rules.specs.Store.{Store, managerOf, partitionAt, spansAt, withManager, laidInPlace}
-use Rattle.rules.specs.Store.{createdStore, rolledBackBelow, purgedStore}
+use Rattle.rules.specs.Store.{refreshed, createdStore, rolledBackBelow, purgedStore}
 use Rattle.rules.specs.Answers.{accepted, livePart}
-use Rattle.rules.specs.WellFormed.{wellFormed, lengthsOk}
+use Rattle.rules.specs.WellFormed.{sound, lengthsOk}
 use Rattle.rules.specs.Calls.{createAnswer, managerAnswer, managerAfter, appendAnswer, clearAnswer, closeAnswer}
 use Rattle.rules.specs.Calls.{scanAnswer, purgeAnswer, flagsAt}
 use Rattle.rules.specs.declared.Reader.{Reader}
@@ -106,14 +106,15 @@ purgeOutcome p a next st =
 unfoldable pub step : Call → Store → Outcome
 step (create s) st = outcome (createAnswer s (lengthsOk st)) (createdStore s st) st
 step (manage c) st =
-    outcome (managerAnswer c (wellFormed st) (managerOf st)) (withManager (managerAfter c (managerOf st)) st) st
+    outcome (managerAnswer c (sound st) (managerOf st))
+    (refreshed (withManager (managerAfter c (managerOf st)) st)) st
 step (append i p batch) st =
     outcome (appendAnswer i p batch st) (laidInPlace p (appended i batch (spansAt p st)) st) st
 step (clear i p) st = outcome (clearAnswer i p st) (laidInPlace p (cleared i (spansAt p st)) st) st
 step (rollback i) st =
     let next = rolledBackManager i (managerOf st) in
-    outcome (closeAnswer i (wellFormed st) (managerOf st) next)
-    (withManager next (rolledBackBelow i partitionsMax st)) st
+    outcome (closeAnswer i (sound st) (managerOf st) next)
+    (refreshed (withManager next (rolledBackBelow i partitionsMax st))) st
 step (scan r p lent) st = scanOutcome (scanAnswer r p lent st) (flagsAt r p st) lent st
 step (purge p) st = purgeOutcome p (purgeAnswer p st) (purgedStore p st) st
 

@@ -1,18 +1,18 @@
--- 01's *sound*, over the whole store, as a test. 01 "Refusals that come from the state", last paragraph.
+-- 01's *sound*, over the whole store, as a test. 01 "Refusals that come from the state", last paragraph; 02 (iii).
 -- In order: clock, read-write transactions, read-only ones, managerOk, areas, partitions, lengths of the lent
--- areas, wellFormed.
+-- areas, wellFormed, the totals, sound.
 -- Laws: laws/proofs/Laws/WellFormed.antt.
 -- Assumes nothing.
 use mathlib.Core.Bool.{Bool, true, not, _&&_, _||_}
 use mathlib.Core.List.{List, [], _∷_, map}
 use Prim.Native.Nat.{ℕ, suc, _*_}
-use lib.ListN.{length, take, drop}
+use lib.ListN.{length, take, drop, getD}
 use lib.Dec.{ltb, leb, eqb}
 use Rattle.lists.specs.Lists.{anyOf, allOf, elem, distinct, rises, part}
 use Rattle.rules.specs.Limits.{lastEpoch, lastTicket, writersMax, readersMax, depsMax, areasMax}
 use Rattle.rules.specs.Limits.{rowsMax, entriesMax}
 use Rattle.rules.specs.Manager.{Writer, recordsOf, writersOf, readersOf, isOpen}
-use Rattle.rules.specs.Store.{Store, managerOf}
+use Rattle.rules.specs.Store.{Store, managerOf, totalAt, partitionNumbers}
 use Rattle.rules.specs.declared.Clock.{Clock}
 use Rattle.rules.specs.declared.RwTxn.{RwTxn}
 use Rattle.rules.specs.declared.RoTxn.{RoTxn}
@@ -123,7 +123,15 @@ partitionOk m entries q =
 unfoldable pub lengthsOk : Store → Bool
 lengthsOk st = eqb (length (st .rows)) (rowsMax * areasMax) && eqb (length (st .entries)) (entriesMax * areasMax)
 
+-- all but the totals
 unfoldable pub wellFormed : Store → Bool
 wellFormed st =
     lengthsOk st && managerOk (managerOf st) && areasOk (st .state .partitions)
     && allOf (partitionOk (managerOf st) (st .entries)) (st .state .partitions .at)
+
+-- the totals are those worked out afresh
+unfoldable pub totalsOk : Store → Bool
+totalsOk st = allOf (λ p. eqb (getD (st .state .totals) p 0) (totalAt p st)) partitionNumbers
+
+unfoldable pub sound : Store → Bool
+sound st = wellFormed st && totalsOk st

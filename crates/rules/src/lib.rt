@@ -63,6 +63,7 @@ pub struct Partitions {
 
 // 01's books, kept by value: the transaction manager (specs/Manager.antt), then the lots. The areas of rows and of
 // entries are lent. deps is one table for all records: row i, its words 31 * i to 31 * i + 30, belongs to record i.
+// totals is of each partition what a page at LCE is shown, in milligrams (02 (iii)).
 #[repr(C)]
 pub struct State {
     pub clock: Clock,
@@ -70,6 +71,7 @@ pub struct State {
     pub deps: [u64; DEPS_ALL],
     pub readers: RoTxns,
     pub partitions: Partitions,
+    pub totals: [u64; PARTITIONS_MAX],
 }
 
 // An entry of a partition: the epoch, how many rows the partition holds after it, and a mark: 0 rows, 1
