@@ -24,7 +24,9 @@ comesAfter js c d e =
       (eqb (e .mark) 0 && ltb (d .end) (e .end) && not (eqb (d .mark) 0 && eqb (d .epoch) (e .epoch)))
 
 abbrev pub badOf : Last → Last
-badOf s = record { entry = s .entry; ok = false }
+badOf s = record { entry = s .entry; ok = false; cleared = s .cleared }
 
 abbrev pub stepOf : List ℕ → Held → Last → Entry → Last
-stepOf js c s e = cond (comesAfter js c (s .entry) e) (record { entry = e; ok = s .ok }) (badOf s)
+stepOf js c s e =
+    cond (comesAfter js c (s .entry) e)
+    (record { entry = e; ok = s .ok; cleared = eqb (e .mark) 1 || s .cleared }) (badOf s)

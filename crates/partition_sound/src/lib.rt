@@ -11,6 +11,9 @@ use rules::limits::ENTRIES_MAX;
 use rules::limits::PARTITIONS_MAX;
 use rules::limits::ROWS_MAX;
 use rules::limits::WRITERS_MAX;
+use totals::clearing;
+use totals::landing;
+use totals::shown;
 ghost use mathlib.Core.Path.{_≡_};
 ghost use mathlib.Core.Bool.{_&&_};
 ghost use lib.Dec.{leb};
@@ -23,10 +26,12 @@ mod numbers;
 mod pass;
 mod rest;
 
-// Where a partition stands after an entry: that entry, and whether all are well so far.
+// Where a partition stands after an entry: that entry, whether all are well so far, and whether one was a delete (01:
+// clearing).
 pub struct Last {
     pub entry: Entry,
     pub ok: bool,
+    pub cleared: bool,
 }
 
 // What an entry's epoch is held against: it lies below EC, up to LCE it needs no record, and so many of the epochs that
@@ -38,12 +43,14 @@ pub struct Held {
 }
 
 // What the test of the lots asks of the books: the clock, with LCE raised to EC where each epoch between has a record;
-// the epochs of the records; the partitions.
+// LCE; the epochs of the records; the partitions and their totals.
 pub struct Asked {
     pub clock: Clock,
+    pub lce: u64,
     pub epochs: [u64; WRITERS_MAX],
     pub count: usize,
     pub partitions: Partitions,
+    pub totals: [u64; PARTITIONS_MAX],
 }
 
 // The epochs of the read-write transactions (01: loads) that have a record.
@@ -102,9 +109,9 @@ fn before_first() -> Entry
     }
 }
 
-// What is asked of books with this clock, these records and these partitions.
-pub fn ask(clock: Clock, ts: RwTxns, ps: Partitions) -> Asked
-    ensures { λ r. ⌜ r ≡ askedOf clock ts ps ⌝ }
+// What is asked of books with this clock, these records, these partitions and totals.
+pub fn ask(clock: Clock, ts: RwTxns, ps: Partitions, totals: [u64; PARTITIONS_MAX]) -> Asked
+    ensures { λ r. ⌜ r ≡ askedOf clock ts ps totals ⌝ }
 {
     let es = epochs_of(ts);
     let at = es.at;
@@ -112,30 +119,42 @@ pub fn ask(clock: Clock, ts: RwTxns, ps: Partitions) -> Asked
     let c = raise(clock, &at[..n]);
     Asked {
         clock: c,
+        lce: clock.lce,
         epochs: at,
         count: n,
         partitions: ps,
+        totals: totals,
     }
 }
 
-// *sound* but for the manager: m rows are lent beside the entries. One pass over the entries in use of each partition,
-// to which the records' epochs are lent.
-pub fn rest_ok(entries: &[Entry], m: usize, a: Asked) -> bool
-    ensures { λ r. ⌜ r ≡ restAsked (now (entries .entry)) m a ⌝ }
+// *sound* but for the manager. One pass over the entries in use of each partition, to which the records' epochs are
+// lent; then, where the partition is well, one over its entries and rows, which weighs it (02 (iii)).
+pub fn rest_ok(entries: &[Entry], rows: &[u64], a: Asked) -> bool
+    ensures { λ r. ⌜ r ≡ restAsked (now (entries .entry)) (now (rows .entry)) a ⌝ }
 {
     let n = entries.len();
+    let m = rows.len();
     let held = rest::held_of(a);
     let places = rest::places_of(a);
+    let kept = rest::totals_of(a);
+    let reach = rest::reach_of(a);
     let start = rest::start();
+    let none = clearing::no_top();
+    let empty = shown::no_tally();
     let mut ok = rest::begin(n, m, places);
     let mut p: usize = 0;
     let epochs = rest::epochs_in(a);
     while p < PARTITIONS_MAX {
         let q = rest::place_of(places, p);
-        let from = rest::from_of(q);
-        let to = rest::to_of(q);
+        let from = totals::from_of(q);
+        let to = totals::to_of(q);
         let last = pass::pass(entries, &epochs, held, start, from, to);
-        ok = rest::judged(ok, q, last);
+        let end = rest::weighed_to(q, last, from, to);
+        let stop = rest::cleared_to(last, from, end);
+        let top = clearing::find(entries, rows, reach, none, from, stop);
+        let cut = landing::land_cut(reach, q, top);
+        let t = shown::tally(entries, rows, cut, empty, from, end);
+        ok = rest::judged(rows, ok, kept, p, q, last, cut, t);
         p += 1;
     }
     ok

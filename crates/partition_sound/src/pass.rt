@@ -30,6 +30,7 @@ fn bad(last: Last) -> Last
     Last {
         entry: d,
         ok: false,
+        cleared: last.cleared,
     }
 }
 
@@ -55,6 +56,7 @@ fn step(epochs: &[u64], c: Held, last: Last, e: Entry) -> Last
         return Last {
             entry: e,
             ok: last.ok,
+            cleared: true,
         };
     }
     if e.mark != 0 {
@@ -71,6 +73,7 @@ fn step(epochs: &[u64], c: Held, last: Last, e: Entry) -> Last
     Last {
         entry: e,
         ok: last.ok,
+        cleared: last.cleared,
     }
 }
 

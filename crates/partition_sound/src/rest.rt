@@ -8,14 +8,17 @@ use crate::before_first;
 use crate::counts_ok;
 use rules::Partition;
 use rules::Partitions;
-use rules::limits::AREAS_MAX;
 use rules::limits::ENTRIES_LENT;
-use rules::limits::ENTRIES_MAX;
+use rules::limits::PARTITIONS_MAX;
 use rules::limits::ROWS_LENT;
 use rules::limits::WRITERS_MAX;
+use totals::Cut;
+use totals::Reach;
+use totals::Tally;
+use totals::shown::closed;
 ghost use mathlib.Core.Path.{_≡_};
 ghost use Rattle.area.specs.Load.{partitionIn};
-ghost use Rattle.partition_sound.specs.Rest.{heldOf, startOf, begins, fromOf, toOf, judgedOf};
+ghost use Rattle.partition_sound.specs.Rest.{heldOf, reachOf, startOf, begins, weighedTo, clearedTo, judgedOf};
 
 pub fn held_of(a: Asked) -> Held
     ensures { λ r. ⌜ r ≡ heldOf a ⌝ }
@@ -33,6 +36,23 @@ pub fn epochs_in(a: Asked) -> [u64; WRITERS_MAX]
     a.epochs
 }
 
+// The epochs that a page at LCE sees.
+pub fn reach_of(a: Asked) -> Reach
+    ensures { λ r. ⌜ r ≡ reachOf a ⌝ }
+{
+    Reach {
+        over: 0,
+        high: a.lce,
+        gone: 0,
+    }
+}
+
+pub fn totals_of(a: Asked) -> [u64; PARTITIONS_MAX]
+    ensures { λ r. ⌜ r ≡ a .totals ⌝ }
+{
+    a.totals
+}
+
 pub fn places_of(a: Asked) -> Partitions
     ensures { λ r. ⌜ r ≡ a .partitions ⌝ }
 {
@@ -44,7 +64,11 @@ pub fn start() -> Last
     ensures { λ r. ⌜ r ≡ startOf ⌝ }
 {
     let d = before_first();
-    Last { entry: d, ok: true }
+    Last {
+        entry: d,
+        ok: true,
+        cleared: false,
+    }
 }
 
 // n entries and m rows are lent, and the areas are shared out once.
@@ -66,34 +90,44 @@ pub fn place_of(ps: Partitions, p: usize) -> Partition
     area::partition_at(ps, p as u64)
 }
 
-// Where the entries of a partition begin and end, nowhere where its numbers are out of range.
-pub fn from_of(q: Partition) -> usize
-    ensures { λ r. ⌜ r ≡ fromOf q ⌝ }
+// Up to where a partition is weighed: to the end, and nowhere where it is not well.
+pub fn weighed_to(q: Partition, last: Last, from: usize, to: usize) -> usize
+    ensures { λ r. ⌜ r ≡ weighedTo q last from to ⌝ }
 {
-    if AREAS_MAX <= q.area {
-        return 0;
+    if !counts_ok(q) {
+        return from;
     }
-    if ENTRIES_MAX < q.entries {
-        return 0;
+    if last.entry.end != q.rows {
+        return from;
     }
-    ENTRIES_MAX * q.area
+    if !last.ok {
+        return from;
+    }
+    to
 }
 
-pub fn to_of(q: Partition) -> usize
-    ensures { λ r. ⌜ r ≡ toOf q ⌝ }
+// Up to where the greatest clearing is sought: nowhere where there is none.
+pub fn cleared_to(last: Last, from: usize, end: usize) -> usize
+    ensures { λ r. ⌜ r ≡ clearedTo last from end ⌝ }
 {
-    if AREAS_MAX <= q.area {
-        return 0;
+    if last.cleared {
+        return end;
     }
-    if ENTRIES_MAX < q.entries {
-        return 0;
-    }
-    ENTRIES_MAX * q.area + q.entries
+    from
 }
 
-// Partition q is well, after those before it.
-pub fn judged(ok: bool, q: Partition, last: Last) -> bool
-    ensures { λ r. ⌜ r ≡ judgedOf ok q last ⌝ }
+// Partition q is well, after those before it, and weighs its total.
+pub fn judged(
+    rows: &[u64],
+    ok: bool,
+    totals: [u64; PARTITIONS_MAX],
+    p: usize,
+    q: Partition,
+    last: Last,
+    c: Cut,
+    t: Tally,
+) -> bool
+    ensures { λ r. ⌜ r ≡ judgedOf (now (rows .entry)) ok totals p q last c t ⌝ }
 {
     if !ok {
         return false;
@@ -104,5 +138,11 @@ pub fn judged(ok: bool, q: Partition, last: Last) -> bool
     if last.entry.end != q.rows {
         return false;
     }
-    last.ok
+    if !last.ok {
+        return false;
+    }
+    if PARTITIONS_MAX <= p {
+        return false;
+    }
+    totals[p] == closed(rows, c, t)
 }

@@ -3,7 +3,7 @@ ghost use mathlib.Core.Path.{_≡_};
 ghost use Rattle.rules.specs.Store.{freshPartitions};
 ghost use Rattle.partition_sound.specs.Asked.{lengthsAre};
 ghost use Rattle.rules.specs.Answers.{accepted};
-ghost use Rattle.store.specs.Kept.{createKept, managerKept};
+ghost use Rattle.store.specs.Kept.{createKept, managerKept, landingOf, landedKept};
 use crate::new_books;
 use epoch::Epoch;
 use epoch::Start;
@@ -17,6 +17,8 @@ use rules::State;
 use rules::limits::ENTRIES_LENT;
 use rules::limits::PARTITIONS_MAX;
 use rules::limits::ROWS_LENT;
+use totals::Reach;
+use totals::landing::Landing;
 
 // A call on the manager; rest says whether the rest of the store is sound.
 pub fn manage_core(state: State, rest: bool, call: ManagerCall) -> Kept
@@ -40,6 +42,43 @@ pub fn goes_on(done: Kept) -> bool
         return false;
     }
     true
+}
+
+// The partitions, their totals, and the epochs above LCE before a call, up to LCE after it: what lands (02 (iii)).
+pub fn landing(before: State, done: Kept) -> Landing
+    ensures { λ r. ⌜ r ≡ landingOf before done 0 ⌝ }
+{
+    landing_without(before, done, 0)
+}
+
+// The same but for the epoch of a transaction (01: load) that is rolled back.
+pub fn landing_without(before: State, done: Kept, gone: u64) -> Landing
+    ensures { λ r. ⌜ r ≡ landingOf before done gone ⌝ }
+{
+    Landing {
+        partitions: before.partitions,
+        totals: before.totals,
+        reach: Reach {
+            over: before.clock.lce,
+            high: done.state.clock.lce,
+            gone: gone,
+        },
+    }
+}
+
+// The totals of an accepted call; a refused one changes nothing.
+pub fn landed(done: Kept, totals: [u64; PARTITIONS_MAX]) -> Kept
+    ensures { λ r. ⌜ r ≡ landedKept done totals ⌝ }
+{
+    let mut s = done.state;
+    if goes_on(done) {
+        s.totals = totals;
+    }
+    let answer = done.answer;
+    Kept {
+        state: s,
+        answer: answer,
+    }
 }
 
 // Partition p starts empty in area p, and area 8 is spare.

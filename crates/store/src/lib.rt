@@ -17,6 +17,7 @@ use rules::RoTxns;
 use rules::RwTxns;
 use rules::State;
 use rules::limits::DEPS_ALL;
+use rules::limits::PARTITIONS_MAX;
 use rules::limits::READERS_MAX;
 use rules::limits::WRITERS_MAX;
 use txn_find::no_ro;
@@ -50,6 +51,7 @@ pub fn new_books(s: u64) -> State
             next: 1,
         },
         partitions: partitions,
+        totals: [0; PARTITIONS_MAX],
     }
 }
 
@@ -68,10 +70,12 @@ pub fn manage(state: State, entries: &[Entry], rows: &[u64], call: ManagerCall) 
     ensures { λ r. ⌜ Left (step (manage call) (storeOf state (now (rows .entry)) (now (entries .entry))))
         r (now (rows .entry)) (now (entries .entry)) ⌝ }
 {
-    let m = rows.len();
-    let a = partition_sound::ask(state.clock, state.writers, state.partitions);
-    let rest = partition_sound::rest_ok(entries, m, a);
-    books::manage_core(state, rest, call)
+    let a = partition_sound::ask(state.clock, state.writers, state.partitions, state.totals);
+    let rest = partition_sound::rest_ok(entries, rows, a);
+    let done = books::manage_core(state, rest, call);
+    let l = books::landing(state, done);
+    let totals = totals::landing::land(entries, rows, l);
+    books::landed(done, totals)
 }
 
 // A transaction (01: load) begins. Refusals, in this order: 5, 6, 7.
@@ -79,9 +83,8 @@ pub fn begin(state: State, entries: &[Entry], rows: &[u64]) -> Kept
     ensures { λ r. ⌜ Left (step begin (storeOf state (now (rows .entry)) (now (entries .entry))))
         r (now (rows .entry)) (now (entries .entry)) ⌝ }
 {
-    let m = rows.len();
-    let a = partition_sound::ask(state.clock, state.writers, state.partitions);
-    let rest = partition_sound::rest_ok(entries, m, a);
+    let a = partition_sound::ask(state.clock, state.writers, state.partitions, state.totals);
+    let rest = partition_sound::rest_ok(entries, rows, a);
     txn_start::begin(state, rest)
 }
 
@@ -90,10 +93,12 @@ pub fn commit(state: State, entries: &[Entry], rows: &[u64], txn: u64) -> Kept
     ensures { λ r. ⌜ Left (step (commit txn) (storeOf state (now (rows .entry)) (now (entries .entry))))
         r (now (rows .entry)) (now (entries .entry)) ⌝ }
 {
-    let m = rows.len();
-    let a = partition_sound::ask(state.clock, state.writers, state.partitions);
-    let rest = partition_sound::rest_ok(entries, m, a);
-    txn_close::commit(state, rest, txn)
+    let a = partition_sound::ask(state.clock, state.writers, state.partitions, state.totals);
+    let rest = partition_sound::rest_ok(entries, rows, a);
+    let done = txn_close::commit(state, rest, txn);
+    let l = books::landing(state, done);
+    let totals = totals::landing::land(entries, rows, l);
+    books::landed(done, totals)
 }
 
 // A read-only transaction (01: page) begins at an epoch; 0 means LCE. Refusals, in this order: 5, 4, 6, 7.
@@ -101,9 +106,8 @@ pub fn begin_ro(state: State, entries: &[Entry], rows: &[u64], epoch: u64) -> Ke
     ensures { λ r. ⌜ Left (step (beginRo epoch) (storeOf state (now (rows .entry)) (now (entries .entry))))
         r (now (rows .entry)) (now (entries .entry)) ⌝ }
 {
-    let m = rows.len();
-    let a = partition_sound::ask(state.clock, state.writers, state.partitions);
-    let rest = partition_sound::rest_ok(entries, m, a);
+    let a = partition_sound::ask(state.clock, state.writers, state.partitions, state.totals);
+    let rest = partition_sound::rest_ok(entries, rows, a);
     txn_read::begin_ro(state, rest, epoch)
 }
 
@@ -112,9 +116,8 @@ pub fn end_ro(state: State, entries: &[Entry], rows: &[u64], ticket: u64) -> Kep
     ensures { λ r. ⌜ Left (step (endRo ticket) (storeOf state (now (rows .entry)) (now (entries .entry))))
         r (now (rows .entry)) (now (entries .entry)) ⌝ }
 {
-    let m = rows.len();
-    let a = partition_sound::ask(state.clock, state.writers, state.partitions);
-    let rest = partition_sound::rest_ok(entries, m, a);
+    let a = partition_sound::ask(state.clock, state.writers, state.partitions, state.totals);
+    let rest = partition_sound::rest_ok(entries, rows, a);
     txn_read::end_ro(state, rest, ticket)
 }
 
@@ -123,9 +126,8 @@ pub fn advance_lse(state: State, entries: &[Entry], rows: &[u64], target: u64) -
     ensures { λ r. ⌜ Left (step (advanceLse target) (storeOf state (now (rows .entry)) (now (entries .entry))))
         r (now (rows .entry)) (now (entries .entry)) ⌝ }
 {
-    let m = rows.len();
-    let a = partition_sound::ask(state.clock, state.writers, state.partitions);
-    let rest = partition_sound::rest_ok(entries, m, a);
+    let a = partition_sound::ask(state.clock, state.writers, state.partitions, state.totals);
+    let rest = partition_sound::rest_ok(entries, rows, a);
     txn_safe::advance_lse(state, rest, target)
 }
 
@@ -144,8 +146,8 @@ pub fn append(
     let n = entries.len();
     let m = rows.len();
     let k = batch.len();
-    let a = partition_sound::ask(state.clock, state.writers, state.partitions);
-    let rest = partition_sound::rest_ok(entries, m, a);
+    let a = partition_sound::ask(state.clock, state.writers, state.partitions, state.totals);
+    let rest = partition_sound::rest_ok(entries, rows, a);
     let last = area::last_entry(entries, state.partitions, p);
     let w = plan_write::append_core(state, rest, last, n, m, k, txn, p);
     plan_write::put_write(entries, w);
@@ -160,8 +162,8 @@ pub fn clear(state: State, entries: &mut [Entry], rows: &mut [u64], txn: u64, p:
 {
     let n = entries.len();
     let m = rows.len();
-    let a = partition_sound::ask(state.clock, state.writers, state.partitions);
-    let rest = partition_sound::rest_ok(entries, m, a);
+    let a = partition_sound::ask(state.clock, state.writers, state.partitions, state.totals);
+    let rest = partition_sound::rest_ok(entries, rows, a);
     let w = plan_write::clear_core(state, rest, n, m, txn, p);
     plan_write::put_write(entries, w);
     plan_write::keep_rows(rows, w);
@@ -173,13 +175,15 @@ pub fn roll_back(state: State, entries: &mut [Entry], rows: &mut [u64], a: u64) 
     ensures { λ r. ⌜ Left (step (rollback a) (storeOf state (now (rows .entry)) (now (entries .entry))))
         r (now (rows .exit)) (now (entries .exit)) ⌝ }
 {
-    let m = rows.len();
-    let asked = partition_sound::ask(state.clock, state.writers, state.partitions);
-    let rest = partition_sound::rest_ok(entries, m, asked);
+    let asked = partition_sound::ask(state.clock, state.writers, state.partitions, state.totals);
+    let rest = partition_sound::rest_ok(entries, rows, asked);
     let done = txn_close::roll_back(state, rest, a);
-    let go = books::goes_on(done);
+    let l = books::landing_without(state, done, a);
+    let totals = totals::landing::land(entries, rows, l);
+    let next = books::landed(done, totals);
+    let go = books::goes_on(next);
     let partitions = undo::lots::roll_lots(entries, rows, state.partitions, a, go);
-    done::roll_back_done(done, partitions)
+    done::roll_back_done(next, partitions)
 }
 
 // Transaction i scans partition p: a bit a row in bitmap. Refusals, in this order: 5, 1, 2, 3.
@@ -195,10 +199,9 @@ pub fn scan_rw(
         (now (entries .entry)))) r (now (bitmap .exit)) (storeOf state (now (rows .entry))
         (now (entries .entry))) ⌝ }
 {
-    let m = rows.len();
     let k = bitmap.len();
-    let a = partition_sound::ask(state.clock, state.writers, state.partitions);
-    let rest = partition_sound::rest_ok(entries, m, a);
+    let a = partition_sound::ask(state.clock, state.writers, state.partitions, state.totals);
+    let rest = partition_sound::rest_ok(entries, rows, a);
     let lot = area::load(entries, state.partitions, p);
     let w = plan_scan::rw_core(state, rest, lot, k, i, p);
     plan_scan::write_bits(bitmap, w);
@@ -218,10 +221,9 @@ pub fn scan_ro(
         (now (entries .entry)))) r (now (bitmap .exit)) (storeOf state (now (rows .entry))
         (now (entries .entry))) ⌝ }
 {
-    let m = rows.len();
     let k = bitmap.len();
-    let a = partition_sound::ask(state.clock, state.writers, state.partitions);
-    let rest = partition_sound::rest_ok(entries, m, a);
+    let a = partition_sound::ask(state.clock, state.writers, state.partitions, state.totals);
+    let rest = partition_sound::rest_ok(entries, rows, a);
     let lot = area::load(entries, state.partitions, p);
     let w = plan_scan::ro_core(state, rest, lot, k, t, p);
     plan_scan::write_bits(bitmap, w);
@@ -235,8 +237,8 @@ pub fn purge(state: State, entries: &mut [Entry], rows: &mut [u64], p: u64) -> K
 {
     let n = entries.len();
     let m = rows.len();
-    let a = partition_sound::ask(state.clock, state.writers, state.partitions);
-    let rest = partition_sound::rest_ok(entries, m, a);
+    let a = partition_sound::ask(state.clock, state.writers, state.partitions, state.totals);
+    let rest = partition_sound::rest_ok(entries, rows, a);
     let lot = area::load(entries, state.partitions, p);
     let w = plan_purge::purge_core(state, rest, lot, n, m, p);
     plan_purge::put_purge(entries, w);

@@ -52,7 +52,8 @@ fn land_to(r: Reach, q: Partition) -> usize
     to_of(q)
 }
 
-fn land_cut(r: Reach, q: Partition, t: Top) -> Cut
+// Which rows of a partition are shown by the greatest clearing.
+pub fn land_cut(r: Reach, q: Partition, t: Top) -> Cut
     ensures { λ c. ⌜ c ≡ landCut r q t ⌝ }
 {
     let base = area::row_base(q.area);

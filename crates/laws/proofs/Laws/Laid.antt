@@ -204,5 +204,6 @@ module _ (st : Store) (ok : StoreOk st) (p : ℕ) (h : p < partitionsMax) where
   pub laid-same : laidInPlace p (spansAt p st) st ≡ st
   unfolding laidInPlace laid
   laid-same = λ i. record {
-    state = stateOf (managerOf st) (record { at = at-same i; spare = st .state .partitions .spare });
+    state = stateOf (managerOf st) (record { at = at-same i; spare = st .state .partitions .spare })
+      (st .state .totals);
     rows = rows-same i; entries = entries-same i }

@@ -54,7 +54,7 @@ written-laid p ss plan batch st w = λ j. record {
   state = stateOf (managerOf st) (record {
     at = set (st .state .partitions .at) p (record {
       area = partitionAt p st .area; rows = w .row-count j; entries = w .entry-count j });
-    spare = st .state .partitions .spare });
+    spare = st .state .partitions .spare }) (st .state .totals);
   rows = w .rows j; entries = w .entries j }
 
 -- ---- a partition of a sound store
