@@ -17,7 +17,7 @@ use Rattle.rules.specs.Close.{rolledBackManager}
 use Rattle.rules.specs.Store.{Store, managerOf, partitionAt}
 use Rattle.rules.specs.Bitmap.{bytesFor}
 use Rattle.rules.specs.Answers.{replyOf, accepted}
-use Rattle.rules.specs.WellFormed.{wellFormed, lengthsOk}
+use Rattle.rules.specs.WellFormed.{sound, lengthsOk}
 use Rattle.rules.specs.Calls.{createAnswer, closeAnswer}
 use Rattle.rules.specs.Calls.{appendAnswer, clearAnswer, purgeAnswer, isReader}
 use Rattle.rules.specs.Calls.{seesOf}
@@ -51,14 +51,14 @@ follows-step (create s) {st} F = both-or (createAnswer s (lengthsOk st)) F
   (λ t. let k = create-passed s (lengthsOk st) t in follows-create s st (k .sound) (k .low) (k .high))
 follows-step (manage c) F = manager-follows c F
 follows-step (append i p batch) {st} F = both-or (appendAnswer i p batch st) F
-  (λ t. let k = append-passed i p st batch (λ w h. let q = F .ok .partition p h in let c = q .row-count in let n =
+  (λ t. let k = append-passed i p st batch (λ w h. let q = F .ok .shape .partition p h in let c = q .row-count in let n =
       q .spans-ok .rows-fit in omega arith) t in
     follows-append F i p (k .write .partition) (k .write .pending) batch (k .rows) (k .entries))
 follows-step (clear i p) {st} F = both-or (clearAnswer i p st) F
   (λ t. let k = clear-passed i p st t in follows-clear F i p (k .0 .partition) (k .0 .pending) (k .1))
-follows-step (rollback i) {st} F = both-or (closeAnswer i (wellFormed st) (managerOf st) (rolledBackManager i
+follows-step (rollback i) {st} F = both-or (closeAnswer i (sound st) (managerOf st) (rolledBackManager i
     (managerOf st))) F
-  (λ t. follows-rollback F i (close-passed i (wellFormed st) (managerOf st) _ t .pending))
+  (λ t. follows-rollback F i (close-passed i (sound st) (managerOf st) _ t .pending))
 follows-step (scan r p lent) F = F
 follows-step (purge p) {st} F = split (accepted (purgeAnswer p st))
   (λ a. rw a (follows-purge F p (purge-passed p st a .1)))
@@ -78,8 +78,8 @@ module _ {st : Store} {g : Ledger} (F : Follows st g) (r : Reader) (p : ℕ) (h 
   -- what the spans show an open reader is what the ledger shows
   shown : isReader r (managerOf st) ≡ true → spansShow r p st ≡ shownBy r p g
   shown o = let m = managerOf st in
-      follows-shown (F .partition p h) (seesOf r m) (appliesOf r m) (low-sees m (F .ok .manager) r o)
-        (low-applies m (F .ok .manager) r o)
+      follows-shown (F .partition p h) (seesOf r m) (appliesOf r m) (low-sees m (F .ok .shape .manager) r o)
+        (low-applies m (F .ok .shape .manager) r o)
       ∙ (shows-ext (λ j. alive g j && seesOf r m j) (λ k. alive g k && appliesOf r m k) (λ j. elem j (marksIn r g))
         (λ k. elem k (marksIn r g)) (tracks-sees (F .tracks) r o) (tracks-applies (F .tracks) r o) (linesAt p g)
       ∙ sym (shownBy-marks r p g))

@@ -32,9 +32,11 @@ pub mod Stays
 pub mod Step
 pub mod Store
 pub mod TopDelete
+pub mod Totals
 pub mod Tracks
 pub mod TracksBegin
 pub mod TracksClose
 pub mod TracksReadOnly
 pub mod Views
+pub mod Weight
 pub mod WellFormed

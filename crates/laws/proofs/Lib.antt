@@ -1,3 +1,4 @@
 pub mod Laws
 pub mod History
 pub mod Promises
+pub mod Totals

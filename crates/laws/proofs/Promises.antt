@@ -20,7 +20,7 @@ use Rattle.rules.specs.Manager.{Manager}
 use Rattle.rules.specs.Close.{committedManager, rolledBackManager}
 use Rattle.rules.specs.Store.{Store, managerOf, partitionAt}
 use Rattle.rules.specs.Answers.{replyOf, secondValue, accepted}
-use Rattle.rules.specs.WellFormed.{wellFormed}
+use Rattle.rules.specs.WellFormed.{sound}
 use Rattle.rules.specs.Calls.{closeAnswer, scanAnswer}
 use Rattle.rules.specs.Step.{Call, create, clear, rollback, commit, step, run}
 use Rattle.rules.specs.Ledger.{Line, row, delete, Ledger, heard, linesAt, concealed, showsIn, shows}
@@ -31,7 +31,7 @@ use Rattle.rules.specs.Promises.{spares, ownStep, ownRun, HistoryPageUnchanged,
 use Rattle.rules.specs.Promises.{marksIn, unhiddenIn, unhidden, shownLines, marked, wordsIn, HistoryLandsWhole}
 use Rattle.rules.specs.declared.Reader.{Reader}
 use Rattle.rules.specs.declared.Reader.the-variants.{Rw, Ro}
-use Rattle.laws.proofs.Laws.WellFormed.{store-ok}
+use Rattle.laws.proofs.Laws.Totals.{sound-ok}
 use Rattle.laws.proofs.Laws.Sound.{sound-created, sound-run, sound-answers}
 use Rattle.laws.proofs.Laws.Calls.{close-passed, clear-passed}
 use Rattle.laws.proofs.Laws.Oldest.{tracks-oldest}
@@ -46,7 +46,7 @@ follows-history s st h calls = follows-run calls (follows-made st s h)
 
 pub history-sound : HistorySound
 history-sound s st h calls = let ok = sound-run calls (step (create s) st .store) (sound-created s st h) in
-    (store-ok (storeAfter s st calls) ok, λ c. sound-answers c (storeAfter s st calls) ok)
+    (sound-ok (storeAfter s st calls) ok, λ c. sound-answers c (storeAfter s st calls) ok)
 
 pub history-lce : HistoryLce
 history-lce s st h calls = tracks-latest (follows-history s st h calls .tracks)
@@ -59,9 +59,9 @@ module _ {st : Store} {g : Ledger} (F : Follows st g) (i : ℕ) where
 
   -- next is what the call leaves of the manager, g′ of the ledger
   names-oldest : (next : Manager) (g′ : Ledger) → Tracks next g′
-      → accepted (closeAnswer i (wellFormed st) m next) ≡ true
-      → secondValue (replyOf (closeAnswer i (wellFormed st) m next)) ≡ oldest g′
-  names-oldest next g′ T t = rw (close-passed i (wellFormed st) m next t .is) (tracks-oldest T)
+      → accepted (closeAnswer i (sound st) m next) ≡ true
+      → secondValue (replyOf (closeAnswer i (sound st) m next)) ≡ oldest g′
+  names-oldest next g′ T t = rw (close-passed i (sound st) m next t .is) (tracks-oldest T)
 
   commit-names : NamesOldest (commit i) st g
   unfolding step history ledgerOf
@@ -177,6 +177,6 @@ history-lands-whole s st h calls r o =
 pub new-closes-all : NewClosesAll
 unfolding step scanAnswer
 new-closes-all s st h (Rw i) p l lent = let F = follows-made st s h in
-    rw (store-ok _ (F .ok), lt-leb partitionsMax p l, tracks-admits (F .tracks) (Rw i))
+    rw (sound-ok _ (F .ok), lt-leb partitionsMax p l, tracks-admits (F .tracks) (Rw i))
 new-closes-all s st h (Ro t) p l lent = let F = follows-made st s h in
-    rw (store-ok _ (F .ok), lt-leb partitionsMax p l, tracks-admits (F .tracks) (Ro t))
+    rw (sound-ok _ (F .ok), lt-leb partitionsMax p l, tracks-admits (F .tracks) (Ro t))

@@ -24,7 +24,7 @@ use Rattle.rules.specs.Weight.{weight, weightBy, total}
 use Rattle.rules.specs.Rewrite.{joinedOnto, joined, hasEpoch, rolledBack, purgedIn, purged, skips}
 use Rattle.rules.specs.Bitmap.{bytesFor, byteOf, packed, bitmapAfter}
 use Rattle.rules.specs.Store.{Store, entriesAt, spansAt, laid, laidInPlace, laidInSpare, createdStore}
-use Rattle.rules.specs.Store.{stateOf, totalAt, totalsOf, refreshed, rolledBackAt, rolledBackBelow, purgedStore}
+use Rattle.rules.specs.Store.{stateOf, totalAt, totalsOf, rolledBackAt, rolledBackBelow, purgedStore}
 use Rattle.rules.specs.Answers.{replyOf, firstValue, secondValue}
 use Rattle.rules.specs.WellFormed.{clockOk, depsOk, statusOk, writersOk, readersOk, managerOk, areasOk}
 use Rattle.rules.specs.WellFormed.{epochOk, endsOk, apart, partitionOk, lengthsOk, wellFormed, totalsOk, sound}
@@ -96,7 +96,7 @@ unfolding made line lines bits looked lastEpoch lastTicket createdManager begunM
     cleared seesRw appliesRw hidden flagsIn flags joinedOnto joined hasEpoch rolledBack purgedIn purged skips
     bytesFor byteOf packed bitmapAfter spansAt laid laidInPlace laidInSpare createdStore rolledBackAt
     rolledBackBelow purgedStore clockOk depsOk statusOk writersOk readersOk managerOk areasOk epochOk endsOk
-    apart partitionOk lengthsOk wellFormed shownIn shown weight weightBy total totalAt totalsOf refreshed totalsOk
+    apart partitionOk lengthsOk wellFormed shownIn shown weight weightBy total totalAt totalsOf totalsOk
     sound createAnswer beginAnswer appendAnswer clearAnswer closeAnswer
     beginRoAnswer endRoAnswer seesOf appliesOf flagsAt scanAnswer advanceLseAnswer purgeAnswer step run
     wordsAtOnes

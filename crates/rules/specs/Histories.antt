@@ -11,7 +11,7 @@ use Rattle.lists.specs.Lists.{leastOf}
 use Rattle.rules.specs.Limits.{partitionsMax}
 use Rattle.rules.specs.Store.{Store, managerOf}
 use Rattle.rules.specs.Answers.{replyOf, secondValue, accepted}
-use Rattle.rules.specs.WellFormed.{wellFormed}
+use Rattle.rules.specs.WellFormed.{sound}
 use Rattle.rules.specs.Step.{Call, create, rollback, scan, commit, step, run}
 use Rattle.rules.specs.Ledger.{Ledger, newLedger, latest}
 use Rattle.rules.specs.Claim.{history, ledgerOf, isOpenIn}
@@ -35,7 +35,7 @@ ledgerAfter s st calls = ledgerOf (history calls (step (create s) st .store)) (n
 abbrev pub HistorySound : Type 0
 HistorySound =
     (s : ℕ) (st : Store) → Made s st → (calls : List Call) → let end = storeAfter s st calls in
-    (wellFormed end ≡ true) × ((c : Call) → replyOf (step c end .answer) .number ≡ 5 → ⊥)
+    (sound end ≡ true) × ((c : Call) → replyOf (step c end .answer) .number ≡ 5 → ⊥)
 
 -- making new closes all: no page and no load is open on the store that it leaves
 abbrev pub NewClosesAll : Type 0

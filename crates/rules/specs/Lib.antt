@@ -21,4 +21,5 @@ pub mod Step
 pub mod Ledger
 pub mod Claim
 pub mod Histories
+pub mod Totals
 pub mod Promises

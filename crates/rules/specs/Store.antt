@@ -94,7 +94,7 @@ partitionNumbers = 0 ∷ 1 ∷ 2 ∷ 3 ∷ 4 ∷ 5 ∷ 6 ∷ 7 ∷ []
 unfoldable pub totalsOf : Store → List ℕ
 totalsOf st = map (λ p. totalAt p st) partitionNumbers
 
-unfoldable pub refreshed : Store → Store
+abbrev pub refreshed : Store → Store
 refreshed st = withTotals (totalsOf st) st
 
 -- ---- making new: partition p starts empty in area p, area 8 is spare, all totals are 0; no row or entry word is

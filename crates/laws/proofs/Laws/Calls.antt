@@ -19,7 +19,7 @@ use Rattle.rules.specs.Safe.{blocked, targetOf}
 use Rattle.rules.specs.Append.{appended}
 use Rattle.rules.specs.Store.{Store, managerOf, partitionAt, spansAt}
 use Rattle.rules.specs.Answers.{accepted}
-use Rattle.rules.specs.WellFormed.{wellFormed}
+use Rattle.rules.specs.WellFormed.{sound as isSound}
 use Rattle.rules.specs.Calls.{refuse, within, createAnswer, beginAnswer, closeAnswer, beginRoAnswer}
 use Rattle.rules.specs.Calls.{advanceLseAnswer, appendAnswer, clearAnswer, purgeAnswer}
 use Rattle.rules.specs.Manager.{Manager}
@@ -139,7 +139,7 @@ advance-passed t sound m h =
 
 -- append, clear: an open transaction, a partition, and room
 pub record WritePassed (i p : ℕ) (st : Store) : Type 0 where
-  pub sound : wellFormed st ≡ true
+  pub sound : isSound st ≡ true
   pub partition : p < partitionsMax
   pub pending : hasOpen i (managerOf st) ≡ true
 
@@ -149,19 +149,19 @@ pub record AppendPassed (i p : ℕ) (batch : List ℕ) (st : Store) : Type 0 whe
   pub entries : length (appended i batch (spansAt p st)) ≤ entriesMax
 
 module _ (i p : ℕ) (st : Store) where
-  write-passed : not (wellFormed st) ≡ false → leb partitionsMax p ≡ false → not (hasOpen i (managerOf st)) ≡ false
+  write-passed : not (isSound st) ≡ false → leb partitionsMax p ≡ false → not (hasOpen i (managerOf st)) ≡ false
       → WritePassed i p st
-  write-passed a b c = record { sound = not-false (wellFormed st) a; partition = leb-false partitionsMax p b;
+  write-passed a b c = record { sound = not-false (isSound st) a; partition = leb-false partitionsMax p b;
     pending = not-false (hasOpen i (managerOf st)) c }
 
   -- the rows that are there are at most 512 on a sound store
-  pub append-passed : (batch : List ℕ) → (wellFormed st ≡ true → p < partitionsMax → partitionAt p st .rows ≤
+  pub append-passed : (batch : List ℕ) → (isSound st ≡ true → p < partitionsMax → partitionAt p st .rows ≤
       rowsMax)
       → accepted (appendAnswer i p batch st) ≡ true → AppendPassed i p batch st
   unfolding appendAnswer
   append-passed batch f h =
       let q = partitionAt p st in
-      let a = passed Unsound (not (wellFormed st)) _ h in let b = passed UnknownPartition (leb partitionsMax p) _
+      let a = passed Unsound (not (isSound st)) _ h in let b = passed UnknownPartition (leb partitionsMax p) _
           (a .rest) in
       let c = passed NotOpen (not (hasOpen i (managerOf st))) _ (b .rest) in
       let d = passed RowsFull (ltb (rowsMax - q .rows) (length batch)) _ (c .rest) in
@@ -174,16 +174,16 @@ module _ (i p : ℕ) (st : Store) where
       entriesMax)
   unfolding clearAnswer
   clear-passed h =
-      let a = passed Unsound (not (wellFormed st)) _ h in let b = passed UnknownPartition (leb partitionsMax p) _
+      let a = passed Unsound (not (isSound st)) _ h in let b = passed UnknownPartition (leb partitionsMax p) _
           (a .rest) in
       let c = passed NotOpen (not (hasOpen i (managerOf st))) _ (b .rest) in
       let d = passed EntriesFull (leb entriesMax (partitionAt p st .entries)) _ (c .rest) in
       (write-passed (a .test) (b .test) (c .test), leb-false entriesMax _ (d .test))
 
-pub purge-passed : (p : ℕ) (st : Store) → accepted (purgeAnswer p st) ≡ true → (wellFormed st ≡ true) × (p <
+pub purge-passed : (p : ℕ) (st : Store) → accepted (purgeAnswer p st) ≡ true → (isSound st ≡ true) × (p <
     partitionsMax)
 unfolding purgeAnswer
 purge-passed p st h =
-    let a = passed Unsound (not (wellFormed st)) _ h in let b = passed UnknownPartition (leb partitionsMax p) _ (a
+    let a = passed Unsound (not (isSound st)) _ h in let b = passed UnknownPartition (leb partitionsMax p) _ (a
         .rest) in
-    (not-false (wellFormed st) (a .test), leb-false partitionsMax p (b .test))
+    (not-false (isSound st) (a .test), leb-false partitionsMax p (b .test))

@@ -23,7 +23,7 @@ use Rattle.rules.specs.Span.{Span}
 use Rattle.rules.specs.Append.{appended, cleared}
 use Rattle.rules.specs.Rewrite.{purged, skips}
 use Rattle.rules.specs.Store.{Store, managerOf, partitionAt, spansAt, withManager, laidInPlace}
-use Rattle.rules.specs.Store.{createdStore, rolledBackBelow, purgedStore}
+use Rattle.rules.specs.Store.{refreshed, laid, createdStore, rolledBackBelow, purgedStore}
 use Rattle.rules.specs.WellFormed.{epochOk, lengthsOk}
 use Rattle.rules.specs.Ledger.{Line, row, delete, Ledger, newLedger, linesAt, withLines, withAdded}
 use Rattle.rules.specs.Ledger.{withBegun, withOpened, withOpenRw, withOpenRo, without}
@@ -34,11 +34,12 @@ use Rattle.laws.proofs.Laws.Epochs.{rolledBack-epochOk, begunRo-epochOk
 use Rattle.laws.proofs.Laws.Epochs.{advanced-epochOk}
 use Rattle.laws.proofs.Laws.Lines.{markOf, AllLines, AllLines-rows}
 use Rattle.laws.proofs.Laws.LinesOf.{linesOf, lines-appended, lines-cleared}
-use Rattle.laws.proofs.Laws.WellFormed.{StoreOk}
 use Rattle.laws.proofs.Laws.Laid.{Changed}
 use Rattle.laws.proofs.Laws.Store.{spans-with-manager, with-manager-ok, created-spans, created-ok}
 use Rattle.laws.proofs.Laws.Store.{append-changed, clear-changed, purge-changed, rollback-spans}
 use Rattle.laws.proofs.Laws.Store.{rollback-ok}
+use Rattle.laws.proofs.Laws.Totals.{SoundOk, sound-refreshed, spans-refreshed, totals-created, sound-added}
+use Rattle.laws.proofs.Laws.Totals.{sound-purged}
 use Rattle.laws.proofs.Laws.Tracks.{alive, Tracks, tracks-writer}
 use Rattle.laws.proofs.Laws.TracksBegin.{tracks-create, tracks-begin, alive-begin}
 use Rattle.laws.proofs.Laws.TracksClose.{tracks-commit, tracks-rollback, alive-commit, alive-rollback}
@@ -49,7 +50,7 @@ use Rattle.laws.proofs.Laws.PartitionFollows.{follows-alive, follows-ro
 use Rattle.laws.proofs.Laws.PartitionFollows.{follows-purged}
 
 pub record Follows (st : Store) (g : Ledger) : Type 0 where
-  pub ok : StoreOk st
+  pub ok : SoundOk st
   pub tracks : Tracks (managerOf st) g
   pub places : length (g .lines) ≡ partitionsMax
   pub partition : (p : ℕ) → p < partitionsMax
@@ -61,7 +62,7 @@ pub follows-create : (s : ℕ) (st : Store) → lengthsOk st ≡ true → 1 ≤ 
     st) (newLedger s)
 unfolding createdStore
 follows-create s st h lo hi = record {
-  ok = created-ok s st h (createdManager-ok s lo hi);
+  ok = record { shape = created-ok s st h (createdManager-ok s lo hi); totals = totals-created s st };
   tracks = tracks-create s lo hi;
   places = refl;
   partition = λ p q. rw (created-spans s st p q, getD-replicate {A = List Line} 8 p [] [] q) (follows-none _ _ _) }
@@ -75,15 +76,16 @@ module _ {st : Store} {g : Ledger} (F : Follows st g) where
       → ((ss : List Span) (ls : List Line) → PartitionFollows (managerOf st .clock .lse) (managerOf st .clock .ec)
           (alive g) ss ls
         → PartitionFollows (m .clock .lse) (m .clock .ec) (alive g′) ss ls)
-      → Follows (withManager m st) g′
+      → Follows (refreshed (withManager m st)) g′
   with-manager m g′ T e f h = record {
-    ok = with-manager-ok m st (F .ok) (T .ok) f;
+    ok = sound-refreshed (withManager m st) (with-manager-ok m st (F .ok .shape) (T .ok) f);
     tracks = T;
     places = ap length e ∙ F .places;
-    partition = λ p q. rw (spans-with-manager m p st, e) (h _ _ (F .partition p q)) }
+    partition = λ p q. rw (spans-refreshed p (withManager m st), spans-with-manager m p st, e)
+      (h _ _ (F .partition p q)) }
 
   pub follows-begin : (managerOf st .clock .ec ≡ suc lastEpoch → ⊥) → managerOf st .writers .count < writersMax
-      → Follows (withManager (begunManager (managerOf st)) st) (withBegun (managerOf st .clock .ec) g)
+      → Follows (refreshed (withManager (begunManager (managerOf st)) st)) (withBegun (managerOf st .clock .ec) g)
   unfolding begunManager
   follows-begin last room = let m = managerOf st in
       with-manager (begunManager m) (withBegun (m .clock .ec) g) (tracks-begin (F .tracks) last room) refl
@@ -93,7 +95,7 @@ module _ {st : Store} {g : Ledger} (F : Follows st g) where
             j))))
 
   pub follows-commit : (i : ℕ) → hasOpen i (managerOf st) ≡ true
-      → Follows (withManager (committedManager i (managerOf st)) st) (withOpenRw (i ∷ g .committed) (without i (g
+      → Follows (refreshed (withManager (committedManager i (managerOf st)) st)) (withOpenRw (i ∷ g .committed) (without i (g
           .writers)) g)
   unfolding committedManager settled
   follows-commit i o = let m = managerOf st in let g′ = withOpenRw (i ∷ g .committed) (without i (g .writers)) g in
@@ -104,14 +106,14 @@ module _ {st : Store} {g : Ledger} (F : Follows st g) where
       → snapshotEpoch e (managerOf st) ≤ managerOf st .clock .lce → (managerOf st .readers .next ≡ suc lastTicket →
           ⊥)
       → managerOf st .readers .count < readersMax
-      → Follows (withManager (begunRoManager e (managerOf st)) st) (withOpened e (managerOf st .readers .next) g)
+      → Follows (refreshed (withManager (begunRoManager e (managerOf st)) st)) (withOpened e (managerOf st .readers .next) g)
   unfolding begunRoManager
   follows-begin-ro e low high last room = let m = managerOf st in
       with-manager (begunRoManager e m) (withOpened e (m .readers .next) g) (tracks-begin-ro (F .tracks) e low high
           last room) refl
       (λ j q. begunRo-epochOk e m j ∙ q) (λ ss ls P. P)
 
-  pub follows-end-ro : (t : ℕ) → Follows (withManager (endedRoManager t (managerOf st)) st) (withOpenRo (without t
+  pub follows-end-ro : (t : ℕ) → Follows (refreshed (withManager (endedRoManager t (managerOf st)) st)) (withOpenRo (without t
       (g .readers)) g)
   unfolding endedRoManager
   follows-end-ro t = let m = managerOf st in
@@ -120,8 +122,8 @@ module _ {st : Store} {g : Ledger} (F : Follows st g) where
 
   pub follows-advance : (t : ℕ) → managerOf st .clock .lse ≤ targetOf t (managerOf st) → targetOf t (managerOf st)
       ≤ managerOf st .clock .lce
-      → blocked (targetOf t (managerOf st)) (managerOf st) ≡ false → Follows (withManager (advancedManager t
-          (managerOf st)) st) g
+      → blocked (targetOf t (managerOf st)) (managerOf st) ≡ false → Follows (refreshed (withManager (advancedManager t
+          (managerOf st)) st)) g
   unfolding advancedManager
   follows-advance t low high free = let m = managerOf st in
       with-manager (advancedManager t m) g (tracks-advance (F .tracks) t high free) refl
@@ -130,17 +132,17 @@ module _ {st : Store} {g : Ledger} (F : Follows st g) where
   -- ---- roll back: the manager, and every partition
 
   pub follows-rollback : (i : ℕ) → hasOpen i (managerOf st) ≡ true
-      → Follows (withManager (rolledBackManager i (managerOf st)) (rolledBackBelow i partitionsMax st))
+      → Follows (refreshed (withManager (rolledBackManager i (managerOf st)) (rolledBackBelow i partitionsMax st)))
         (withOpenRw (g .committed) (without i (g .writers)) g)
   unfolding rolledBackManager settled
   follows-rollback i o =
       let m = managerOf st in let n = rolledBackManager i m in let w = tracks-writer (F .tracks) i o in record {
-        ok = rollback-ok i st (F .ok) n (tracks-rollback (F .tracks) i o .ok) (λ j q ne. rolledBack-epochOk i m j
-            ne q);
+        ok = sound-refreshed _ (rollback-ok i st (F .ok .shape) n (tracks-rollback (F .tracks) i o .ok)
+          (λ j q ne. rolledBack-epochOk i m j ne q));
         tracks = tracks-rollback (F .tracks) i o;
         places = F .places;
-        partition = λ p q. rw (spans-with-manager n p (rolledBackBelow i partitionsMax st), rollback-spans i st (F
-            .ok) p q)
+        partition = λ p q. rw (spans-refreshed p (withManager n (rolledBackBelow i partitionsMax st)),
+            spans-with-manager n p (rolledBackBelow i partitionsMax st), rollback-spans i st (F .ok .shape) p q)
           (follows-rolledBack (F .partition p q) i (alive (withOpenRw (g .committed) (without i (g .writers)) g))
               (w .1)
             (λ j. alive-rollback (F .tracks) i o j)) }
@@ -148,12 +150,13 @@ module _ {st : Store} {g : Ledger} (F : Follows st g) where
   -- ---- append, clear and purge: one partition
 
   -- its spans are ss, and its list ls
-  changed : (p : ℕ) → p < partitionsMax → (ss : List Span) (st′ : Store) → Changed p ss st st′ → (ls : List Line)
+  changed : (p : ℕ) → p < partitionsMax → (ss : List Span) (st′ : Store) → Changed p ss st st′ → SoundOk st′
+      → (ls : List Line)
       → PartitionFollows (managerOf st .clock .lse) (managerOf st .clock .ec) (alive g) ss ls
       → Follows st′ (withLines (set (g .lines) p ls) g)
   unfolding spansAt
-  changed p h ss st′ C ls P = record {
-    ok = C .sound;
+  changed p h ss st′ C k ls P = record {
+    ok = k;
     tracks = rw (C .manager) (tracks-lines (F .tracks) (set (g .lines) p ls));
     places = length-set (g .lines) p ls ∙ F .places;
     partition = λ q k. rw (C .manager) (split-eq q p
@@ -162,25 +165,28 @@ module _ {st : Store} {g : Ledger} (F : Follows st g) where
 
   module _ (i p : ℕ) (h : p < partitionsMax) (o : hasOpen i (managerOf st) ≡ true) where
     added : (ss : List Span) (st′ : Store) (ys : List Line) → Changed p ss st st′
+        → st′ .state .totals ≡ st .state .totals
         → linesOf ss ≡ linesOf (spansAt p st) ++ ys
         → AllLines (λ x. markOf x ≡ i) ys → Follows st′ (withAdded p ys g)
-    added ss st′ ys C e a = let w = tracks-writer (F .tracks) i o in
-        changed p h ss st′ C (linesAt p g ++ ys) (follows-added (F .partition p h) i ss ys (w .1) (w .2) (w .0) e a)
+    added ss st′ ys C t e a = let w = tracks-writer (F .tracks) i o in
+        changed p h ss st′ C (sound-added st (F .ok) i p ss st′ ys o C t e a) (linesAt p g ++ ys) (follows-added (F .partition p h) i ss ys (w .1) (w .2) (w .0) e a)
 
     pub follows-append : (batch : List ℕ) → partitionAt p st .rows + length batch ≤ rowsMax
         → length (appended i batch (spansAt p st)) ≤ entriesMax
         → Follows (laidInPlace p (appended i batch (spansAt p st)) st) (withAdded p (map (row i) batch) g)
+    unfolding laidInPlace laid
     follows-append batch r n =
         added (appended i batch (spansAt p st)) _ (map (row i) batch)
-        (append-changed st (F .ok) p h i batch (hasOpen-epochOk (managerOf st) (F .tracks .ok) i o) r n)
+        (append-changed st (F .ok .shape) p h i batch (hasOpen-epochOk (managerOf st) (F .tracks .ok) i o) r n) refl
         (lines-appended i batch (spansAt p st)) (AllLines-rows (λ j. j ≡ i) i batch refl)
 
     pub follows-clear : partitionAt p st .entries < entriesMax
         → Follows (laidInPlace p (cleared i (spansAt p st)) st) (withAdded p (delete i ∷ []) g)
+    unfolding laidInPlace laid
     follows-clear n =
         added (cleared i (spansAt p st)) _ (delete i ∷ [])
-        (clear-changed st (F .ok) p h i (hasOpen-epochOk (managerOf st) (F .tracks .ok) i o) n) (lines-cleared i
-            (spansAt p st)) (refl, tt)
+        (clear-changed st (F .ok .shape) p h i (hasOpen-epochOk (managerOf st) (F .tracks .ok) i o) n) refl
+        (lines-cleared i (spansAt p st)) (refl, tt)
 
   pub follows-purge : (p : ℕ) → p < partitionsMax → Follows (purgedStore p st) g
   follows-purge p h =
@@ -188,5 +194,6 @@ module _ {st : Store} {g : Ledger} (F : Follows st g) where
       let same : withLines (set (g .lines) p (linesAt p g)) g ≡ g = ap (λ (ls : List (List Line)). withLines ls g)
           (set-getD (g .lines) p []) in
       rw same at (changed p h (cond (skips l ss) ss (purged l ss)) (purgedStore p st)
-        (purge-changed st (F .ok) p h (purged-epochOk (managerOf st) (F .tracks .ok))) (linesAt p g)
+        (purge-changed st (F .ok .shape) p h (purged-epochOk (managerOf st) (F .tracks .ok)))
+        (sound-purged st (F .ok) p h) (linesAt p g)
             (follows-purged (F .partition p h)))

@@ -1,7 +1,7 @@
 -- What a scan shows is what the ledger shows of the lines. 01 "Who sees a row". Definitions:
 -- rules/specs/Hides.antt.
--- In order: rows shown together; the flags' count; the words at the flags and the count of ones; the words at
--- a bitmap's ones.
+-- In order: rows shown together; the words shown; the flags' count; the words at the flags and the count of ones; the
+-- words at a bitmap's ones.
 -- Elsewhere: hidden beside concealed (LinesOf.antt); the flags as bytes (Bitmap.antt).
 -- Assumes nothing.
 use mathlib.Core.Path.{_≡_, refl, sym, _∙_, ap}
@@ -15,7 +15,7 @@ use Rattle.lists.proofs.Laws.Bools.{split}
 use Rattle.lists.proofs.Laws.Select.{select, select-append, select-replicate, ones-select}
 use Rattle.rules.specs.Ledger.{Line, row, concealed, showsIn, shows}
 use Rattle.rules.specs.Span.{Span, isDelete, wordsOf}
-use Rattle.rules.specs.Hides.{hidden, flagsIn, flags}
+use Rattle.rules.specs.Hides.{hidden, flagsIn, flags, shownIn, shown}
 use Rattle.rules.specs.Bitmap.{bitmapAfter}
 use Rattle.rules.specs.Claim.{wordsAtOnes}
 use Rattle.laws.proofs.Laws.Bitmap.{bitmap-words}
@@ -34,6 +34,20 @@ shows-delete : (s a : ℕ → Bool) (all : List Line) (t : Span) (xs : List Line
     → showsIn s a all (deleteOf t ++ xs) ≡ showsIn s a all xs
 unfolding showsIn
 shows-delete s a all t xs = split (isDelete t) (λ e. rw e) (λ f. rw f)
+
+-- ---- the words shown
+
+shown-linesIn : (s a : ℕ → Bool) (all ss : List Span) → shownIn s a all ss ≡ showsIn s a (linesOf all) (linesOf ss)
+unfolding shownIn showsIn
+shown-linesIn s a all [] = unfold linesOf in refl
+shown-linesIn s a all (t ∷ ss) =
+    rw (shown-linesIn s a all ss, hidden-span a all t ss (t .epoch), lines-cons t ss,
+      shows-rows s a (linesOf all) (t .epoch) (t .words) (deleteOf t ++ linesOf ss),
+      shows-delete s a (linesOf all) t (linesOf ss))
+
+pub shown-lines : (s a : ℕ → Bool) (ss : List Span) → shown s a ss ≡ shows s a (linesOf ss)
+unfolding shown shows
+shown-lines s a ss = shown-linesIn s a ss ss
 
 -- ---- of each row one flag
 

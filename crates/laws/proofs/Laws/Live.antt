@@ -19,7 +19,7 @@ use Rattle.rules.specs.Calls.{purgeAnswer}
 use Rattle.rules.specs.Step.{purge, step}
 use Rattle.laws.proofs.Laws.Answers.{refused-part}
 use Rattle.laws.proofs.Laws.Rewrite.{words-joined, words-purgedIn}
-use Rattle.laws.proofs.Laws.WellFormed.{StoreOk, store-ok}
+use Rattle.laws.proofs.Laws.Totals.{SoundOk, sound-ok}
 use Rattle.laws.proofs.Laws.Laid.{partitionAt-laid}
 
 -- ---- refused
@@ -40,14 +40,14 @@ partition-rewritten : (p : ℕ) (ts : List Span) (st : Store) → p < length (st
 unfolding laidInSpare
 partition-rewritten p ts st l = partitionAt-laid p (st .state .partitions .spare) (partitionAt p st .area) ts st l
 
-pub purge-live : (p : ℕ) (st : Store) → StoreOk st → p < partitionsMax
+pub purge-live : (p : ℕ) (st : Store) → SoundOk st → p < partitionsMax
     → step (purge p) st .live ≡ rowsAt p (step (purge p) st .store)
 unfolding step purgeAnswer purgedStore
 purge-live p st ok h =
     let l = managerOf st .clock .lse in let ss = spansAt p st in let q = partitionAt p st in
-    let k = ok .partition p h in let c = k .row-count in let f = k .spans-ok .rows-fit in let w = words-purged l ss in
-    rw (store-ok st ok, lt-leb partitionsMax p h) (split (skips l ss)
+    let k = ok .shape .partition p h in let c = k .row-count in let f = k .spans-ok .rows-fit in let w = words-purged l ss in
+    rw (sound-ok st ok, lt-leb partitionsMax p h) (split (skips l ss)
       (λ t. rw t (take-part (rowsMax * q .area) rowsMax (q .rows) (st .rows) (omega arith)))
-      (λ u. let ts = purged l ss in let n = ok .places in rw (u, partition-rewritten p ts st (omega arith))
+      (λ u. let ts = purged l ss in let n = ok .shape .places in rw (u, partition-rewritten p ts st (omega arith))
         (take-part (rowsMax * st .state .partitions .spare) rowsMax (length (wordsOf ts)) (laidInSpare p ts st .rows)
           (omega arith))))

@@ -17,7 +17,7 @@ use Rattle.rules.specs.ReadOnly.{snapshotEpoch, begunRoManager, endedRoManager}
 use Rattle.rules.specs.Safe.{blocked, targetOf, advancedManager}
 use Rattle.rules.specs.Store.{Store, managerOf, withManager}
 use Rattle.rules.specs.Answers.{replyOf, accepted}
-use Rattle.rules.specs.WellFormed.{wellFormed}
+use Rattle.rules.specs.WellFormed.{sound}
 use Rattle.rules.specs.Calls.{within, beginAnswer, closeAnswer, beginRoAnswer, endRoAnswer, advanceLseAnswer}
 use Rattle.rules.specs.Calls.{managerAnswer, managerAfter}
 use Rattle.rules.specs.Step.{manage, step}
@@ -63,18 +63,18 @@ manager-not-5 (AdvanceLse n) m =
 -- ---- sound
 
 pub manager-sound : (c : ManagerCall) (st : Store) → StoreOk st
-    → accepted (managerAnswer c (wellFormed st) (managerOf st)) ≡ true
+    → accepted (managerAnswer c (sound st) (managerOf st)) ≡ true
     → StoreOk (withManager (managerAfter c (managerOf st)) st)
-manager-sound Begin st ok t = let m = managerOf st in let k = begin-passed (wellFormed st) m t in
+manager-sound Begin st ok t = let m = managerOf st in let k = begin-passed (sound st) m t in
     with-manager-ok (begunManager m) st ok (begun-ok m (ok .manager) (k .last) (k .room)) (begun-epochOk m)
 manager-sound (Commit i) st ok t = let m = managerOf st in
     with-manager-ok (committedManager i m) st ok (committed-ok i m (ok .manager)) (committed-epochOk i m)
-manager-sound (BeginRo e) st ok t = let m = managerOf st in let k = begin-ro-passed e (wellFormed st) m t in
+manager-sound (BeginRo e) st ok t = let m = managerOf st in let k = begin-ro-passed e (sound st) m t in
     with-manager-ok (begunRoManager e m) st ok
       (begunRo-ok e m (ok .manager) (k .low) (k .high) (k .last) (k .room)) (λ j q. begunRo-epochOk e m j ∙ q)
 manager-sound (EndRo n) st ok t = let m = managerOf st in
     with-manager-ok (endedRoManager n m) st ok (endedRo-ok n m (ok .manager)) (λ j q. endedRo-epochOk n m j ∙ q)
-manager-sound (AdvanceLse n) st ok t = let m = managerOf st in let k = advance-passed n (wellFormed st) m t in
+manager-sound (AdvanceLse n) st ok t = let m = managerOf st in let k = advance-passed n (sound st) m t in
     with-manager-ok (advancedManager n m) st ok (advanced-ok n m (ok .manager) (k .high) (k .free))
       (λ j q. advanced-epochOk n m j ∙ q)
 
@@ -89,17 +89,17 @@ both-or a F h = split (accepted a) (λ t. rw t (h t)) (λ f. rw f F)
 pub manager-follows : (c : ManagerCall) {st : Store} {g : Ledger} → Follows st g
     → Follows (step (manage c) st .store) (heard (eventOf (manage c) (replyOf (step (manage c) st .answer))) g)
 unfolding step heard eventOf
-manager-follows Begin {st} F = both-or (beginAnswer (wellFormed st) (managerOf st)) F (λ t.
-    let k = begin-passed (wellFormed st) (managerOf st) t in rw (k .is) (follows-begin F (k .last) (k .room)))
-manager-follows (Commit i) {st} F = both-or (closeAnswer i (wellFormed st) (managerOf st)
+manager-follows Begin {st} F = both-or (beginAnswer (sound st) (managerOf st)) F (λ t.
+    let k = begin-passed (sound st) (managerOf st) t in rw (k .is) (follows-begin F (k .last) (k .room)))
+manager-follows (Commit i) {st} F = both-or (closeAnswer i (sound st) (managerOf st)
     (committedManager i (managerOf st))) F
-    (λ t. follows-commit F i (close-passed i (wellFormed st) (managerOf st) _ t .pending))
-manager-follows (BeginRo e) {st} F = both-or (beginRoAnswer e (wellFormed st) (managerOf st)) F (λ t.
-    let k = begin-ro-passed e (wellFormed st) (managerOf st) t in
+    (λ t. follows-commit F i (close-passed i (sound st) (managerOf st) _ t .pending))
+manager-follows (BeginRo e) {st} F = both-or (beginRoAnswer e (sound st) (managerOf st)) F (λ t.
+    let k = begin-ro-passed e (sound st) (managerOf st) t in
     rw (k .is) (follows-begin-ro F e (k .low) (k .high) (k .last) (k .room)))
-manager-follows (EndRo n) {st} F = both-or (endRoAnswer n (wellFormed st) (managerOf st)) F (λ _. follows-end-ro F n)
-manager-follows (AdvanceLse n) {st} F = split (accepted (advanceLseAnswer n (wellFormed st) (managerOf st)))
-    (λ t. let k = advance-passed n (wellFormed st) (managerOf st) t in
+manager-follows (EndRo n) {st} F = both-or (endRoAnswer n (sound st) (managerOf st)) F (λ _. follows-end-ro F n)
+manager-follows (AdvanceLse n) {st} F = split (accepted (advanceLseAnswer n (sound st) (managerOf st)))
+    (λ t. let k = advance-passed n (sound st) (managerOf st) t in
       rw t (follows-advance F n (k .low) (k .high) (k .free)))
     (λ f. rw f F)
 
@@ -118,14 +118,14 @@ left-or r a {g} o h = split (accepted a) (λ t. rw t (h t))
 pub manager-keeps : (c : ManagerCall) {st : Store} {g : Ledger} → Follows st g → (r : Reader) → isOpenIn r g ≡ true
     → spares r (manage c) ≡ true → Left r g (heard (eventOf (manage c) (replyOf (step (manage c) st .answer))) g)
 unfolding step heard eventOf
-manager-keeps Begin {st} F r o h = let m = managerOf st in left-or r (beginAnswer (wellFormed st) m) o (λ t.
-    rw (begin-passed (wellFormed st) m t .is) (record { snapshot = keeps-begin (F .tracks) r o; lines = refl }))
+manager-keeps Begin {st} F r o h = let m = managerOf st in left-or r (beginAnswer (sound st) m) o (λ t.
+    rw (begin-passed (sound st) m t .is) (record { snapshot = keeps-begin (F .tracks) r o; lines = refl }))
 manager-keeps (Commit i) {st} {g} F r o h = let m = managerOf st in
-    left-or r (closeAnswer i (wellFormed st) m (committedManager i m)) o (λ t. record {
+    left-or r (closeAnswer i (sound st) m (committedManager i m)) o (λ t. record {
       snapshot = keeps-close g _ i r o (not-true (isLoad i r) h); lines = refl })
-manager-keeps (BeginRo e) {st} F r o h = let m = managerOf st in left-or r (beginRoAnswer e (wellFormed st) m) o (λ t.
-    rw (begin-ro-passed e (wellFormed st) m t .is)
+manager-keeps (BeginRo e) {st} F r o h = let m = managerOf st in left-or r (beginRoAnswer e (sound st) m) o (λ t.
+    rw (begin-ro-passed e (sound st) m t .is)
       (record { snapshot = keeps-begin-ro (F .tracks) e r o; lines = refl }))
-manager-keeps (EndRo n) {st} {g} F r o h = left-or r (endRoAnswer n (wellFormed st) (managerOf st)) o (λ t. record {
+manager-keeps (EndRo n) {st} {g} F r o h = left-or r (endRoAnswer n (sound st) (managerOf st)) o (λ t. record {
     snapshot = keeps-end-ro g n r o (not-true (isPage n r) h); lines = refl })
 manager-keeps (AdvanceLse n) {g = g} F r o h = record { snapshot = keeps-same g r o; lines = refl }

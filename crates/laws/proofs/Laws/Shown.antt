@@ -21,7 +21,7 @@ use Rattle.rules.specs.Rewrite.{purged, skips}
 use Rattle.rules.specs.Bitmap.{bytesFor}
 use Rattle.rules.specs.Store.{Store, managerOf, partitionAt, spansAt, withManager, purgedStore}
 use Rattle.rules.specs.Answers.{replyOf, secondValue, accepted}
-use Rattle.rules.specs.WellFormed.{wellFormed}
+use Rattle.rules.specs.WellFormed.{sound}
 use Rattle.rules.specs.Calls.{refuse, isReader, seesOf, appliesOf, flagsAt, scanAnswer}
 use Rattle.rules.specs.Calls.{advanceLseAnswer}
 use Rattle.rules.specs.Calls.{purgeAnswer}
@@ -39,7 +39,7 @@ use Rattle.laws.proofs.Laws.LinesOf.{linesOf, lines-purged}
 use Rattle.laws.proofs.Laws.Hides.{ones-flags, scan-shows}
 use Rattle.laws.proofs.Laws.Safe.{low-sees, low-applies}
 use Rattle.laws.proofs.Laws.Epochs.{purged-epochOk}
-use Rattle.laws.proofs.Laws.WellFormed.{StoreOk, store-ok}
+use Rattle.laws.proofs.Laws.Totals.{SoundOk, sound-ok}
 use Rattle.laws.proofs.Laws.Store.{purge-changed}
 use Rattle.laws.proofs.Laws.Calls.{purge-passed}
 use Rattle.laws.proofs.Laws.Sound.{sound-step}
@@ -52,10 +52,10 @@ showsTo r m ss = shows (seesOf r m) (appliesOf r m) (linesOf ss)
 abbrev pub spansShow : Reader → ℕ → Store → List ℕ
 spansShow r p st = showsTo r (managerOf st) (spansAt p st)
 
-module _ (st : Store) (ok : StoreOk st) (r : Reader) (p : ℕ) (h : p < partitionsMax) where
+module _ (st : Store) (ok : SoundOk st) (r : Reader) (p : ℕ) (h : p < partitionsMax) where
   -- the words of the area, as many as there are rows, are the words of the spans
   words-at : take (partitionAt p st .rows) (areaRows (partitionAt p st .area) st) ≡ wordsOf (spansAt p st)
-  words-at = let q = ok .partition p h in let c = q .row-count in let n = q .spans-ok .rows-fit in
+  words-at = let q = ok .shape .partition p h in let c = q .row-count in let n = q .spans-ok .rows-fit in
       take-part (rowsMax * partitionAt p st .area) rowsMax (partitionAt p st .rows) (st .rows) (omega arith)
       ∙ sym (q .words-are)
 
@@ -66,7 +66,7 @@ module _ (st : Store) (ok : StoreOk st) (r : Reader) (p : ℕ) (h : p < partitio
     -- only a reader that is not open is refused
     answer : scanAnswer r p lent st ≡ refuse NotOpen (not (isReader r (managerOf st))) scans
     unfolding scanAnswer
-    answer = rw (store-ok st ok, lt-leb partitionsMax p h,
+    answer = rw (sound-ok st ok, lt-leb partitionsMax p h,
       le-ltb (length lent) (bytesFor (partitionAt p st .rows)) enough)
 
     answer-open : isReader r (managerOf st) ≡ true → scanAnswer r p lent st ≡ scans
@@ -94,7 +94,7 @@ pub record ScanSame (r : Reader) (p : ℕ) (lent : List ℕ) (st st′ : Store) 
   pub shown : wordsScanned r p lent st′ ≡ wordsScanned r p lent st
 
 module _ (r : Reader) (p : ℕ) (h : p < partitionsMax) (lent : List ℕ)
-    (st st′ : Store) (ok : StoreOk st) (ok′ : StoreOk st′)
+    (st st′ : Store) (ok : SoundOk st) (ok′ : SoundOk st′)
     (n : bytesFor (partitionAt p st .rows) ≤ length lent) (n′ : bytesFor (partitionAt p st′ .rows) ≤ length lent)
     (o : isReader r (managerOf st) ≡ true) where
   scan-same : isReader r (managerOf st′) ≡ true → spansShow r p st′ ≡ spansShow r p st → ScanSame r p lent st st′
@@ -103,7 +103,7 @@ module _ (r : Reader) (p : ℕ) (h : p < partitionsMax) (lent : List ℕ)
 
 -- ---- purge
 
-module _ (p : ℕ) (st : Store) (ok : StoreOk st) (r : Reader) (o : isReader r (managerOf st) ≡ true) where
+module _ (p : ℕ) (st : Store) (ok : SoundOk st) (r : Reader) (o : isReader r (managerOf st) ≡ true) where
   abbrev lse : ℕ
   lse = managerOf st .clock .lse
 
@@ -113,12 +113,12 @@ module _ (p : ℕ) (st : Store) (ok : StoreOk st) (r : Reader) (o : isReader r (
   -- the partition's spans once purged
   rewritten : showsTo r (managerOf st) (cond (skips lse ss) ss (purged lse ss)) ≡ spansShow r p st
   rewritten = let m = managerOf st in split (skips lse ss) (λ t. rw t) (λ f. rw (f, lines-purged lse ss)
-      (shows-purge lse (seesOf r m) (appliesOf r m) (low-sees m (ok .manager) r o) (low-applies m (ok .manager) r o)
+      (shows-purge lse (seesOf r m) (appliesOf r m) (low-sees m (ok .shape .manager) r o) (low-applies m (ok .shape .manager) r o)
         (linesOf ss)))
 
   purged-shows : p < partitionsMax → (q : ℕ) → q < partitionsMax
       → (managerOf (purgedStore p st) ≡ managerOf st) × (spansShow r q (purgedStore p st) ≡ spansShow r q st)
-  purged-shows l q h = let C = purge-changed st ok p l (purged-epochOk (managerOf st) (ok .manager)) in
+  purged-shows l q h = let C = purge-changed st (ok .shape) p l (purged-epochOk (managerOf st) (ok .shape .manager)) in
       (C .manager, split-eq q p
         (λ e. rw e ((λ i. showsTo r (C .manager i) (C .there i)) ∙ rewritten))
         (λ ne i. showsTo r (C .manager i) (C .elsewhere q h ne i)))
@@ -129,7 +129,7 @@ module _ (p : ℕ) (st : Store) (ok : StoreOk st) (r : Reader) (o : isReader r (
   purge-spans q h = split (accepted (purgeAnswer p st))
     (λ t. rw t (purged-shows (purge-passed p st t .1) q h)) (λ f. rw f (refl, refl))
 
-pub purge-shows : (p : ℕ) (st : Store) → StoreOk st → (r : Reader) → isReader r (managerOf st) ≡ true
+pub purge-shows : (p : ℕ) (st : Store) → SoundOk st → (r : Reader) → isReader r (managerOf st) ≡ true
     → (q : ℕ) → q < partitionsMax → (lent : List ℕ) → bytesFor (partitionAt q st .rows) ≤ length lent
     → bytesFor (partitionAt q (step (purge p) st .store) .rows) ≤ length lent
     → ScanSame r q lent st (step (purge p) st .store)
@@ -142,7 +142,7 @@ advance-spans : (t : ℕ) (st : Store) (r : Reader) (q : ℕ)
     → (isReader r (managerOf (step (advanceLse t) st .store)) ≡ isReader r (managerOf st))
       × (spansShow r q (step (advanceLse t) st .store) ≡ spansShow r q st)
 unfolding step advancedManager seesOf appliesOf spansAt
-advance-spans t st r q = split (accepted (advanceLseAnswer t (wellFormed st) (managerOf st)))
+advance-spans t st r q = split (accepted (advanceLseAnswer t (sound st) (managerOf st)))
     (λ a. rw a (same r)) (λ f. rw f (refl, refl))
   where
     same : (r : Reader) → (isReader r (advancedManager t (managerOf st)) ≡ isReader r (managerOf st))
@@ -150,7 +150,7 @@ advance-spans t st r q = split (accepted (advanceLseAnswer t (wellFormed st) (ma
     same (Rw i) = (refl, refl)
     same (Ro u) = (refl, refl)
 
-pub advance-shows : (t : ℕ) (st : Store) → StoreOk st → (r : Reader) → isReader r (managerOf st) ≡ true
+pub advance-shows : (t : ℕ) (st : Store) → SoundOk st → (r : Reader) → isReader r (managerOf st) ≡ true
     → (q : ℕ) → q < partitionsMax → (lent : List ℕ) → bytesFor (partitionAt q st .rows) ≤ length lent
     → bytesFor (partitionAt q (step (advanceLse t) st .store) .rows) ≤ length lent
     → ScanSame r q lent st (step (advanceLse t) st .store)

@@ -6,7 +6,7 @@
 -- Assumes nothing.
 use mathlib.Core.Path.{_≡_, refl}
 use mathlib.Core.Bool.{Bool, true, false, not, cond}
-use mathlib.Core.List.{List, [], _∷_}
+use mathlib.Core.List.{List, [], _∷_, map}
 use Prim.Native.Nat.{ℕ, _-_, _≤_, _<_}
 use native.Mathlib.Omega.{arith}
 use lib.ListN.{length}
@@ -24,9 +24,10 @@ use Rattle.rules.specs.Span.{Span, wordsOf}
 use Rattle.rules.specs.Append.{appended}
 use Rattle.rules.specs.Rewrite.{rolledBack, purgedIn, purged, skips}
 use Rattle.rules.specs.Bitmap.{bytesFor}
-use Rattle.rules.specs.Store.{Store, managerOf, partitionAt, spansAt}
+use Rattle.rules.specs.Store.{Store, managerOf, partitionAt, spansAt, laid, laidInPlace}
+use Rattle.rules.specs.Ledger.{row, delete}
 use Rattle.rules.specs.Answers.{replyOf, accepted}
-use Rattle.rules.specs.WellFormed.{wellFormed, lengthsOk}
+use Rattle.rules.specs.WellFormed.{sound, lengthsOk}
 use Rattle.rules.specs.Calls.{refuse, within, isReader, createAnswer, closeAnswer, managerAnswer}
 use Rattle.rules.specs.Calls.{advanceLseAnswer, appendAnswer, clearAnswer, purgeAnswer}
 use Rattle.rules.specs.Calls.{scanAnswer}
@@ -40,13 +41,16 @@ use Rattle.rules.specs.declared.Answer.{Answer}
 use Rattle.laws.proofs.Laws.Begin.{created-ok as createdManager-ok}
 use Rattle.laws.proofs.Laws.Close.{rolledBack-ok}
 use Rattle.laws.proofs.Laws.Safe.{target-zero}
-use Rattle.laws.proofs.Laws.Epochs.{hasOpen-epochOk, purged-epochOk}
+use Rattle.laws.proofs.Laws.Lines.{AllLines-rows}
+use Rattle.laws.proofs.Laws.LinesOf.{lines-appended, lines-cleared}
+use Rattle.laws.proofs.Laws.Epochs.{hasOpen-epochOk}
 use Rattle.laws.proofs.Laws.Epochs.{rolledBack-epochOk}
 use Rattle.laws.proofs.Laws.Rewrite.{words-joined, length-joined, words-keepIf, length-purgedIn}
 use Rattle.laws.proofs.Laws.Live.{words-purged, purge-live-refused}
-use Rattle.laws.proofs.Laws.WellFormed.{StoreOk, store-facts, lengths-ok, store-ok}
+use Rattle.laws.proofs.Laws.WellFormed.{StoreOk, lengths-ok}
+use Rattle.laws.proofs.Laws.Totals.{SoundOk, sound-facts, sound-ok, sound-refreshed, totals-created, sound-added}
+use Rattle.laws.proofs.Laws.Totals.{sound-purged}
 use Rattle.laws.proofs.Laws.Store.{created-ok, append-changed, clear-changed}
-use Rattle.laws.proofs.Laws.Store.{purge-changed}
 use Rattle.laws.proofs.Laws.Store.{rollback-ok}
 use Rattle.laws.proofs.Laws.Calls.{create-passed}
 use Rattle.laws.proofs.Laws.Calls.{append-passed}
@@ -58,98 +62,110 @@ use Rattle.laws.proofs.Laws.ManagerCalls.{manager-not-5, manager-sound}
 -- ---- a call
 
 -- an accepted call leaves the next store, a refused one the store it had
-either : (a : Answer) {st next : Store} → StoreOk st → (accepted a ≡ true → StoreOk next)
-    → StoreOk (cond (accepted a) next st)
+either : (a : Answer) {st next : Store} → SoundOk st → (accepted a ≡ true → SoundOk next)
+    → SoundOk (cond (accepted a) next st)
 either a ok h = split (accepted a) (λ t. rw t (h t)) (λ f. rw f ok)
 
 pub sound-created : (s : ℕ) (st : Store) → accepted (step (create s) st .answer) ≡ true
-    → StoreOk (step (create s) st .store)
+    → SoundOk (step (create s) st .store)
 unfolding step
 sound-created s st t = let k = create-passed s (lengthsOk st) t in
-    rw t (created-ok s st (k .sound) (createdManager-ok s (k .low) (k .high)))
+    rw t (record { shape = created-ok s st (k .sound) (createdManager-ok s (k .low) (k .high));
+      totals = totals-created s st })
 
-module _ (st : Store) (ok : StoreOk st) where
+module _ (st : Store) (ok : SoundOk st) where
   pub rows-room : (p : ℕ) → p < partitionsMax → partitionAt p st .rows ≤ rowsMax
-  rows-room p h = let q = ok .partition p h in let c = q .row-count in let n = q .spans-ok .rows-fit in omega arith
+  rows-room p h = let q = ok .shape .partition p h in let c = q .row-count in let n = q .spans-ok .rows-fit in
+      omega arith
 
-  sound-append : (i p : ℕ) (batch : List ℕ) → StoreOk (step (append i p batch) st .store)
-  unfolding step
+  sound-append : (i p : ℕ) (batch : List ℕ) → SoundOk (step (append i p batch) st .store)
+  unfolding step laidInPlace laid
   sound-append i p batch = either (appendAnswer i p batch st) ok (λ t.
     let k = append-passed i p st batch (λ w h. rows-room p h) t in let w = k .write in
-    append-changed st ok p (w .partition) i batch (hasOpen-epochOk (managerOf st) (ok .manager) i (w .pending))
-      (k .rows) (k .entries) .sound)
+    sound-added st ok i p _ _ (map (row i) batch) (w .pending)
+      (append-changed st (ok .shape) p (w .partition) i batch
+        (hasOpen-epochOk (managerOf st) (ok .shape .manager) i (w .pending)) (k .rows) (k .entries)) refl
+      (lines-appended i batch (spansAt p st)) (AllLines-rows (λ j. j ≡ i) i batch refl))
 
-  sound-clear : (i p : ℕ) → StoreOk (step (clear i p) st .store)
-  unfolding step
+  sound-clear : (i p : ℕ) → SoundOk (step (clear i p) st .store)
+  unfolding step laidInPlace laid
   sound-clear i p = either (clearAnswer i p st) ok (λ t. let k = clear-passed i p st t in let w = k .0 in
-    clear-changed st ok p (w .partition) i (hasOpen-epochOk (managerOf st) (ok .manager) i (w .pending)) (k .1) .sound)
+    sound-added st ok i p _ _ (delete i ∷ []) (w .pending)
+      (clear-changed st (ok .shape) p (w .partition) i
+        (hasOpen-epochOk (managerOf st) (ok .shape .manager) i (w .pending)) (k .1)) refl
+      (lines-cleared i (spansAt p st)) (refl, tt))
 
-pub sound-step : (c : Call) (st : Store) → StoreOk st → StoreOk (step c st .store)
+  sound-purge : (p : ℕ) → SoundOk (step (purge p) st .store)
+  unfolding step
+  sound-purge p = either (purgeAnswer p st) ok (λ t. sound-purged st ok p (purge-passed p st t .1))
+
+pub sound-step : (c : Call) (st : Store) → SoundOk st → SoundOk (step c st .store)
 unfolding step
 sound-step (create s) st ok = split (accepted (createAnswer s (lengthsOk st)))
     (λ t. sound-created s st t) (λ f. rw f ok)
-sound-step (manage c) st ok = either (managerAnswer c (wellFormed st) (managerOf st)) ok (manager-sound c st ok)
+sound-step (manage c) st ok = either (managerAnswer c (sound st) (managerOf st)) ok
+    (λ t. sound-refreshed _ (manager-sound c st (ok .shape) t))
 sound-step (append i p batch) st ok = sound-append st ok i p batch
 sound-step (clear i p) st ok = sound-clear st ok i p
 sound-step (rollback i) st ok = let m = managerOf st in let n = rolledBackManager i m in
-    either (closeAnswer i (wellFormed st) m n) ok
-    (λ t. rollback-ok i st ok n (rolledBack-ok i m (ok .manager)) (λ j q ne. rolledBack-epochOk i m j ne q))
+    either (closeAnswer i (sound st) m n) ok (λ t. sound-refreshed _
+      (rollback-ok i st (ok .shape) n (rolledBack-ok i m (ok .shape .manager))
+        (λ j q ne. rolledBack-epochOk i m j ne q)))
 sound-step (scan r p lent) st ok = ok
-sound-step (purge p) st ok = either (purgeAnswer p st) ok
-    (λ t. purge-changed st ok p (purge-passed p st t .1) (purged-epochOk (managerOf st) (ok .manager)) .sound)
+sound-step (purge p) st ok = sound-purge st ok p
 
 -- ---- as the test; an array of the source has its length by its type
 
-pub well-formed-step : (c : Call) (st : Store) → length (st .state .partitions .at) ≡ partitionsMax
-    → wellFormed st ≡ true → wellFormed (step c st .store) ≡ true
-well-formed-step c st n h = store-ok (step c st .store) (sound-step c st (store-facts st n h))
+pub sound-kept : (c : Call) (st : Store) → length (st .state .partitions .at) ≡ partitionsMax
+    → sound st ≡ true → sound (step c st .store) ≡ true
+sound-kept c st n h = sound-ok (step c st .store) (sound-step c st (sound-facts st n h))
 
 -- from any store whatever
-pub well-formed-created : (s : ℕ) (st : Store) → accepted (step (create s) st .answer) ≡ true
-    → wellFormed (step (create s) st .store) ≡ true
-well-formed-created s st t = store-ok (step (create s) st .store) (sound-created s st t)
+pub sound-made : (s : ℕ) (st : Store) → accepted (step (create s) st .answer) ≡ true
+    → sound (step (create s) st .store) ≡ true
+sound-made s st t = sound-ok (step (create s) st .store) (sound-created s st t)
 
 -- ---- a list of calls
 
-pub sound-run : (calls : List Call) (st : Store) → StoreOk st → StoreOk (run calls st)
+pub sound-run : (calls : List Call) (st : Store) → SoundOk st → SoundOk (run calls st)
 unfolding run
 sound-run [] st ok = ok
 sound-run (c ∷ cs) st ok = sound-run cs (step c st .store) (sound-step c st ok)
 
 -- ---- no call on a sound store answers 5
 
-module _ (st : Store) (ok : StoreOk st) where
+module _ (st : Store) (ok : SoundOk st) where
   write-not-5 : (i p : ℕ) (a : Answer) → Not5 a
       → Not5 (refuse UnknownPartition (leb partitionsMax p) (refuse NotOpen (not (hasOpen i (managerOf st))) a))
   write-not-5 i p a k = past UnknownPartition (leb partitionsMax p) _ refl
       (past NotOpen (not (hasOpen i (managerOf st))) a refl k)
 
-answers-not-5 : (c : Call) (st : Store) → StoreOk st → Not5 (step c st .answer)
+answers-not-5 : (c : Call) (st : Store) → SoundOk st → Not5 (step c st .answer)
 unfolding step createAnswer closeAnswer appendAnswer clearAnswer purgeAnswer scanAnswer
-answers-not-5 (create s) st ok = rw (lengths-ok st ok)
+answers-not-5 (create s) st ok = rw (lengths-ok st (ok .shape))
   (past OutOfRange (not (within 1 lastEpoch s)) _ refl (ends _ refl))
-answers-not-5 (manage c) st ok = rw (store-ok st ok) (manager-not-5 c (managerOf st))
-answers-not-5 (append i p batch) st ok = rw (store-ok st ok) (write-not-5 st ok i p _
+answers-not-5 (manage c) st ok = rw (sound-ok st ok) (manager-not-5 c (managerOf st))
+answers-not-5 (append i p batch) st ok = rw (sound-ok st ok) (write-not-5 st ok i p _
   (past RowsFull (ltb (rowsMax - partitionAt p st .rows) (length batch)) _ refl
     (past EntriesFull (ltb entriesMax (length (appended i batch (spansAt p st)))) _ refl (ends _ refl))))
-answers-not-5 (clear i p) st ok = rw (store-ok st ok)
+answers-not-5 (clear i p) st ok = rw (sound-ok st ok)
   (write-not-5 st ok i p _ (past EntriesFull (leb entriesMax (partitionAt p st .entries)) _ refl (ends _ refl)))
-answers-not-5 (rollback i) st ok = rw (store-ok st ok)
+answers-not-5 (rollback i) st ok = rw (sound-ok st ok)
   (past NotOpen (not (hasOpen i (managerOf st))) _ refl (ends _ refl))
-answers-not-5 (scan r p lent) st ok = rw (store-ok st ok)
+answers-not-5 (scan r p lent) st ok = rw (sound-ok st ok)
   (past UnknownPartition (leb partitionsMax p) _ refl (past NotOpen (not (isReader r (managerOf st))) _ refl
     (past ShortBitmap (ltb (length lent) (bytesFor (partitionAt p st .rows))) _ refl (ends _ refl))))
-answers-not-5 (purge p) st ok = rw (store-ok st ok) (past UnknownPartition (leb partitionsMax p) _ refl
+answers-not-5 (purge p) st ok = rw (sound-ok st ok) (past UnknownPartition (leb partitionsMax p) _ refl
   (either-way (skips (managerOf st .clock .lse) (spansAt p st)) _ _ (ends _ refl) (ends _ refl)))
 
-pub sound-answers : (c : Call) (st : Store) → StoreOk st → replyOf (step c st .answer) .number ≡ 5 → ⊥
+pub sound-answers : (c : Call) (st : Store) → SoundOk st → replyOf (step c st .answer) .number ≡ 5 → ⊥
 sound-answers c st ok = eqb-false (replyOf (step c st .answer) .number) 5 (answers-not-5 c st ok .number)
 
 -- 01: the value 0 means the greatest target that is not held, so it is never refused
-pub target-zero-accepted : (st : Store) → StoreOk st → replyOf (step (advanceLse 0) st .answer) .number ≡ 0
+pub target-zero-accepted : (st : Store) → SoundOk st → replyOf (step (advanceLse 0) st .answer) .number ≡ 0
 unfolding step advanceLseAnswer
-target-zero-accepted st ok = let m = managerOf st in let t = targetOf 0 m in let g = target-zero m (ok .manager) in
-    rw (store-ok st ok, le-leb (m .clock .lse) t (g .low), le-leb t (m .clock .lce) (g .high), g .free)
+target-zero-accepted st ok = let m = managerOf st in let t = targetOf 0 m in let g = target-zero m (ok .shape .manager) in
+    rw (sound-ok st ok, le-leb (m .clock .lse) t (g .low), le-leb t (m .clock .lce) (g .high), g .free)
 
 -- ---- a refused call
 

@@ -20,7 +20,7 @@ use Rattle.rules.specs.Manager.{hasOpen}
 use Rattle.rules.specs.Close.{rolledBackManager}
 use Rattle.rules.specs.Store.{Store, managerOf}
 use Rattle.rules.specs.Answers.{replyOf, accepted}
-use Rattle.rules.specs.WellFormed.{lengthsOk, wellFormed}
+use Rattle.rules.specs.WellFormed.{lengthsOk, sound}
 use Rattle.rules.specs.Calls.{closeAnswer, appendAnswer}
 use Rattle.rules.specs.Calls.{clearAnswer}
 use Rattle.rules.specs.Step.{Call, create, manage, append, clear, rollback, scan, purge, step}
@@ -163,7 +163,7 @@ module _ {st : Store} {g : Ledger} (F : Follows st g) (r : Reader) (o : isOpenIn
       stays-append F i q (k .pending) (k .partition) batch r o)
   stays-step (clear i q) h = by-owner (clearAnswer i q st) i q _ (λ ws. [])
     (λ t. let k = clear-passed i q st t .0 in stays-clear F i q (k .pending) (k .partition) r o)
-  stays-step (rollback i) h = let m = managerOf st in calm r (closeAnswer i (wellFormed st) m (rolledBackManager i m)) o
+  stays-step (rollback i) h = let m = managerOf st in calm r (closeAnswer i (sound st) m (rolledBackManager i m)) o
     (λ t. stays-keeps r g _ (keeps-close g (g .committed) i r o (not-true (isLoad i r) h)) refl)
   stays-step (scan v p lent) h = stays-still r g o
   stays-step (purge p) h = stays-still r g o

@@ -14,7 +14,7 @@ use Rattle.rules.specs.Begin.{createdManager}
 use Rattle.rules.specs.Span.{spans, entriesOf, wordsOf}
 use Rattle.rules.specs.Append.{appended, cleared}
 use Rattle.rules.specs.Rewrite.{hasEpoch, rolledBack, purged, skips}
-use Rattle.rules.specs.Store.{Store, managerOf, partitionAt, entriesAt, rowsAt, spansAt, withManager}
+use Rattle.rules.specs.Store.{Store, managerOf, partitionAt, entriesAt, rowsAt, spansAt, withManager, partitionNumbers}
 use Rattle.rules.specs.Store.{laidInPlace}
 use Rattle.rules.specs.Store.{createdStore, rolledBackAt, rolledBackBelow, purgedStore}
 use Rattle.rules.specs.WellFormed.{managerOk, epochOk, lengthsOk}
@@ -48,7 +48,7 @@ with-manager-ok m st ok h f = with-manager-sound m st ok h
 
 -- ---- making new
 
-own-area : (p : ℕ) → p < partitionsMax → getD (0 ∷ 1 ∷ 2 ∷ 3 ∷ 4 ∷ 5 ∷ 6 ∷ 7 ∷ []) p 0 ≡ p
+pub own-area : (p : ℕ) → p < partitionsMax → getD partitionNumbers p 0 ≡ p
 own-area zero h = refl
 own-area (suc zero) h = refl
 own-area (suc (suc zero)) h = refl

@@ -40,7 +40,7 @@ unfolding snapshotEpoch
 tracks-snapshot T e = ap (λ (n : ℕ). cond (eqb e 0) n e) (sym (tracks-latest T))
 
 -- up to LCE, alive is committed
-snapshot-marks : {m : Manager} {g : Ledger} → Tracks m g → (e : ℕ) → e ≤ m .clock .lce → (j : ℕ)
+pub snapshot-marks : {m : Manager} {g : Ledger} → Tracks m g → (e : ℕ) → e ≤ m .clock .lce → (j : ℕ)
     → elem j (keepIf (λ c. leb c e) (g .committed)) ≡ alive g j && leb j e
 snapshot-marks {m} {g} T e h j = elem-keepIf j (λ c. leb c e) (g .committed)
     ∙ and-mask (elem j (g .committed)) (alive g j) (leb j e)

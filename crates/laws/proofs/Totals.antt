@@ -1,0 +1,116 @@
+-- Standing totals: after every history, and after every call on a sound store. Statements: rules/specs/Totals.antt.
+-- In order: what a page at LCE is shown is what the ledger shows one that is opened now; history-totals; totals-fresh;
+-- totals-stay.
+-- Assumes nothing.
+use mathlib.Core.Path.{_≡_, refl, sym, ap, _∙_}
+use mathlib.Core.Bool.{Bool, true, _&&_, cond}
+use mathlib.Core.List.{List, _∷_}
+use Prim.Native.Nat.{ℕ, _<_, _≤_}
+use native.Mathlib.Omega.{arith}
+use lib.ListN.{length, getD}
+use lib.Dec.{leb}
+use borrow.Author.Tests.{le-leb}
+use Rattle.lists.specs.Lists.{elem, keepIf}
+use Rattle.lists.proofs.Laws.Bools.{split}
+use Rattle.lists.proofs.Laws.Tests.{no-proof}
+use Rattle.rules.specs.Limits.{partitionsMax}
+use Rattle.rules.specs.Sees.{upTo}
+use Rattle.rules.specs.Weight.{weight, total}
+use Rattle.rules.specs.Begin.{begunManager}
+use Rattle.rules.specs.ReadOnly.{begunRoManager, endedRoManager}
+use Rattle.rules.specs.Safe.{advancedManager}
+use Rattle.rules.specs.Manager.{Manager}
+use Rattle.rules.specs.Store.{Store, managerOf, spansAt, withManager, totalAt, totalsOf, laid, laidInPlace, laidInSpare}
+use Rattle.rules.specs.Store.{purgedStore}
+use Rattle.rules.specs.Answers.{accepted}
+use Rattle.rules.specs.WellFormed.{sound}
+use Rattle.rules.specs.Rewrite.{skips}
+use Rattle.rules.specs.Calls.{managerAnswer, managerAfter, appendAnswer, clearAnswer, purgeAnswer}
+use Rattle.rules.specs.Step.{Call, create, manage, append, clear, rollback, scan, purge, step}
+use Rattle.rules.specs.Ledger.{Ledger, latest, linesAt, marksOf, showsBy, withOpened, readerShows}
+use Rattle.rules.specs.Histories.{Made}
+use Rattle.rules.specs.Totals.{keptTotal, shownNow, HistoryTotals, TotalsFresh, leavesTotals, TotalsStay}
+use Rattle.rules.specs.declared.ManagerCall.{ManagerCall}
+use Rattle.rules.specs.declared.ManagerCall.the-variants.{Begin, Commit, BeginRo, EndRo, AdvanceLse}
+use Rattle.laws.proofs.Laws.Lines.{shows-ext}
+use Rattle.laws.proofs.Laws.Manager.{manager-facts}
+use Rattle.laws.proofs.Laws.PartitionFollows.{follows-shown}
+use Rattle.laws.proofs.Laws.Totals.{SoundOk, sound-facts, total-kept, totals-each}
+use Rattle.laws.proofs.Laws.Tracks.{alive, marksOf-first, tracks-latest}
+use Rattle.laws.proofs.Laws.TracksReadOnly.{snapshot-marks}
+use Rattle.laws.proofs.Laws.Follows.{Follows}
+use Rattle.laws.proofs.Laws.Sound.{sound-step}
+use Rattle.laws.proofs.Laws.Weight.{total-lines}
+use Rattle.laws.proofs.Promises.{follows-history}
+
+-- ---- a page that is opened now
+
+module _ {st : Store} {g : Ledger} (F : Follows st g) where
+  abbrev lce : ℕ
+  lce = managerOf st .clock .lce
+
+  -- the marks in its snapshot
+  abbrev now : List ℕ
+  now = keepIf (λ c. leb c (latest g)) (g .committed)
+
+  now-marks : (j : ℕ) → alive g j && leb j lce ≡ elem j now
+  now-marks j = sym (ap (λ (e : ℕ). elem j (keepIf (λ c. leb c e) (g .committed))) (sym (tracks-latest (F .tracks)))
+      ∙ snapshot-marks (F .tracks) lce (omega arith) j)
+
+  low : (j : ℕ) → j ≤ managerOf st .clock .lse → leb j lce ≡ true
+  low j h = let k = manager-facts (managerOf st) (F .ok .shape .manager) .clock .lse-low in le-leb j lce (omega arith)
+
+  shown-now : (t p : ℕ) → shownNow t p g ≡ showsBy now (linesAt p g)
+  unfolding readerShows
+  shown-now t p = ap (λ (ms : List ℕ). showsBy ms (linesAt p g)) (marksOf-first t now (g .readers))
+
+  pub follows-total : (t p : ℕ) → p < partitionsMax → totalAt p st ≡ weight (shownNow t p g)
+  unfolding totalAt
+  follows-total t p h = total-lines lce (spansAt p st)
+      ∙ (ap weight (follows-shown (F .partition p h) (upTo lce) (upTo lce) low low
+        ∙ shows-ext (λ j. alive g j && leb j lce) (λ k. alive g k && leb k lce) (λ j. elem j now) (λ k. elem k now)
+          now-marks now-marks (linesAt p g))
+      ∙ ap weight (sym (shown-now t p)))
+
+pub history-totals : HistoryTotals
+history-totals s st h calls p l t = let F = follows-history s st h calls in
+    total-kept _ (F .ok) p l ∙ follows-total F t p l
+
+-- ---- a call on a sound store
+
+pub totals-fresh : TotalsFresh
+totals-fresh c st n h p l = total-kept (step c st .store) (sound-step c st (sound-facts st n h)) p l
+
+module _ (st : Store) (ok : SoundOk st) (p : ℕ) (l : p < partitionsMax) where
+  -- a manager with the same LCE
+  at-lce : (m : Manager) → m .clock .lce ≡ managerOf st .clock .lce → totalAt p (withManager m st) ≡ totalAt p st
+  unfolding totalAt spansAt
+  at-lce m e = ap (λ (n : ℕ). total n (spansAt p st)) e
+
+  same-lce : (m : Manager) → m .clock .lce ≡ managerOf st .clock .lce
+      → getD (totalsOf (withManager m st)) p 0 ≡ keptTotal p st
+  same-lce m e = totals-each (withManager m st) p l ∙ (at-lce m e ∙ sym (total-kept st ok p l))
+
+  managed : (c : ManagerCall) → managerAfter c (managerOf st) .clock .lce ≡ managerOf st .clock .lce
+      → keptTotal p (step (manage c) st .store) ≡ keptTotal p st
+  unfolding step
+  managed c e = split (accepted (managerAnswer c (sound st) (managerOf st)))
+    (λ t. rw t (same-lce (managerAfter c (managerOf st)) e)) (λ f. rw f)
+
+  stays : (c : Call) → leavesTotals c ≡ true → keptTotal p (step c st .store) ≡ keptTotal p st
+  unfolding step laidInPlace laidInSpare laid purgedStore begunManager begunRoManager endedRoManager advancedManager
+  stays (create s) h = no-proof h
+  stays (manage Begin) h = managed Begin refl
+  stays (manage (Commit i)) h = no-proof h
+  stays (manage (BeginRo e)) h = managed (BeginRo e) refl
+  stays (manage (EndRo n)) h = managed (EndRo n) refl
+  stays (manage (AdvanceLse n)) h = managed (AdvanceLse n) refl
+  stays (append i q batch) h = split (accepted (appendAnswer i q batch st)) (λ t. rw t) (λ f. rw f)
+  stays (clear i q) h = split (accepted (clearAnswer i q st)) (λ t. rw t) (λ f. rw f)
+  stays (rollback i) h = no-proof h
+  stays (scan r q lent) h = refl
+  stays (purge q) h = split (accepted (purgeAnswer q st))
+    (λ t. rw t (split (skips (managerOf st .clock .lse) (spansAt q st)) (λ u. rw u) (λ f. rw f))) (λ f. rw f)
+
+pub totals-stay : TotalsStay
+totals-stay c st n h k p l = stays st (sound-facts st n h) p l c k
