@@ -8,17 +8,18 @@ use mathlib.Core.List.{List, [], _∷_, _++_}
 use Prim.Native.Nat.{ℕ, _+_, _≤_, _<_}
 use native.Mathlib.Omega.{arith}
 use lib.Dec.{ltb, leb, eqb}
-use borrow.Author.Tests.{le-leb, lt-leb}
-use Rattle.lists.proofs.Laws.All.{All-imp}
-use Rattle.lists.proofs.Laws.Bools.{split}
-use Rattle.rules.specs.Span.{Span}
+use borrow.Author.Tests.{eqb-true, ltb-true, leb-true, leb-false, lt-ltb, le-leb, lt-leb}
+use Rattle.lists.proofs.Laws.All.{All-imp, anyOf-ext}
+use Rattle.lists.specs.Lists.{anyOf}
+use Rattle.lists.proofs.Laws.Bools.{split, and-false, or-false}
+use Rattle.rules.specs.Span.{Span, isDelete}
 use Rattle.rules.specs.Sees.{upTo}
 use Rattle.rules.specs.Rewrite.{rolledBack, purged, skips}
-use Rattle.rules.specs.Weight.{weight, weightBy, total}
-use Rattle.rules.specs.Ledger.{Line, row, delete, shows}
+use Rattle.rules.specs.Weight.{milligrams, weight, weightBy, total}
+use Rattle.rules.specs.Ledger.{Line, row, delete, deletes, concealed, showsIn, shows}
 use Rattle.laws.proofs.Laws.Hides.{shown-lines}
-use Rattle.laws.proofs.Laws.Lines.{markOf, AllLines, Unseen, shows-unseen, shows-keep, shows-ext}
-use Rattle.laws.proofs.Laws.LinesOf.{linesOf, lines-rolledBack, lines-purged}
+use Rattle.laws.proofs.Laws.Lines.{markOf, AllLines, anyDelete, both, Unseen, shows-unseen, shows-keep}
+use Rattle.laws.proofs.Laws.LinesOf.{linesOf, lines-rolledBack, lines-purged, anyDelete-lines}
 use Rattle.laws.proofs.Laws.LinesPurge.{shows-purge}
 
 -- ---- by lines
@@ -61,3 +62,124 @@ total-rolledBack e i ss =
     total-lines e (rolledBack i ss) ∙ (ap (λ xs. weight (shows (upTo e) (upTo e) xs)) (lines-rolledBack i ss)
       ∙ (ap weight (shows-keep (λ j. not (eqb j i)) (upTo e) (upTo e) (linesOf ss))
       ∙ sym (weight-lines (λ j. not (eqb j i) && leb j e) ss)))
+
+-- ---- epochs that land: s sees those up to l, and those of d, which are above l. A delete that lands takes out what was
+-- there, and what lands comes on top
+
+or-true : (b : Bool) → b || true ≡ true
+or-true true = refl
+or-true false = refl
+
+or-assoc : (a b c : Bool) → (a || b) || c ≡ a || (b || c)
+or-assoc true b c = refl
+or-assoc false b c = refl
+
+anyOf-or : {A : Type 0} (p q : A → Bool) (xs : List A) → anyOf (λ x. p x || q x) xs ≡ anyOf p xs || anyOf q xs
+anyOf-or p q [] = refl
+anyOf-or p q (x ∷ xs) = rw (anyOf-or p q xs) (regroup (p x) (q x) (anyOf p xs) (anyOf q xs))
+  where
+    regroup : (a b c d : Bool) → (a || b) || (c || d) ≡ (a || c) || (b || d)
+    regroup true b c d = refl
+    regroup false true true d = refl
+    regroup false true false d = refl
+    regroup false false c d = refl
+
+weight-cond : (b : Bool) (w : ℕ) (xs : List ℕ) → weight (cond b (w ∷ xs) xs) ≡ cond b (milligrams w) 0 + weight xs
+unfolding weight
+weight-cond true w xs = refl
+weight-cond false w xs = omega arith
+
+module _ (l : ℕ) (s d : ℕ → Bool) (above : (j : ℕ) → d j ≡ true → l < j) where
+  abbrev Lands : Line → Type 0
+  Lands x = s (markOf x) ≡ leb (markOf x) l || d (markOf x)
+
+  -- of marks up to l: each delete that lands hides them
+  later-low : (j : ℕ) → j ≤ l → (xs : List Line) → AllLines Lands xs
+      → anyDelete (both s (ltb j)) xs ≡ anyDelete d xs || anyDelete (both (upTo l) (ltb j)) xs
+  later-low j h xs a = anyOf-ext _ _ xs (All-imp _ _ one xs a) ∙ anyOf-or (deletes d) (deletes (both (upTo l) (ltb j))) xs
+    where
+      one : (x : Line) → Lands x → deletes (both s (ltb j)) x ≡ deletes d x || deletes (both (upTo l) (ltb j)) x
+      one (row i w) q = refl
+      one (delete k) q = split (d k)
+        (λ t. let g = above k t in rw (q, t, lt-ltb j k (omega arith)) (ap (λ b. b && true) (or-true (leb k l))))
+        (λ f. rw (q, f) (ap (λ b. b && ltb j k) (or-false (leb k l))))
+
+  same-low : (j : ℕ) → j ≤ l → (xs : List Line) → AllLines Lands xs
+      → anyDelete (both s (eqb j)) xs ≡ anyDelete (both (upTo l) (eqb j)) xs
+  same-low j h xs a = anyOf-ext _ _ xs (All-imp _ _ one xs a)
+    where
+      one : (x : Line) → Lands x → deletes (both s (eqb j)) x ≡ deletes (both (upTo l) (eqb j)) x
+      one (row i w) q = refl
+      one (delete k) q = split (eqb j k)
+        (λ t. let e = eqb-true j k t in rw (q, t, le-leb k l (omega arith)))
+        (λ f. rw (f, and-false (s k), and-false (leb k l)))
+
+  -- of marks above l: only what lands
+  high : (j : ℕ) → l < j → (q : ℕ → Bool) → ((k : ℕ) → q k ≡ true → j ≤ k) → (xs : List Line) → AllLines Lands xs
+      → anyDelete (both s q) xs ≡ anyDelete (both d q) xs
+  high j h q up xs a = anyOf-ext _ _ xs (All-imp _ _ one xs a)
+    where
+      one : (x : Line) → Lands x → deletes (both s q) x ≡ deletes (both d q) x
+      one (row i w) e = refl
+      one (delete k) e = split (q k)
+        (λ t. let g = up k t in rw (e, t, lt-leb k l (omega arith)))
+        (λ f. rw (f, and-false (s k), and-false (d k)))
+
+  module _ (all : List Line) (a : AllLines Lands all) where
+    abbrev taken : Bool
+    taken = anyDelete d all
+
+    concealed-low : (j : ℕ) → j ≤ l → (xs : List Line) → AllLines Lands xs
+        → concealed s all xs j ≡ taken || concealed (upTo l) all xs j
+    unfolding concealed
+    concealed-low j h xs b = rw (later-low j h all a, same-low j h xs b)
+        (or-assoc taken (anyDelete (both (upTo l) (ltb j)) all) (anyDelete (both (upTo l) (eqb j)) xs))
+
+    concealed-high : (j : ℕ) → l < j → (xs : List Line) → AllLines Lands xs
+        → concealed s all xs j ≡ concealed d all xs j
+    unfolding concealed
+    concealed-high j h xs b =
+        rw (high j h (ltb j) (λ k t. let g = ltb-true j k t in omega arith) all a,
+          high j h (eqb j) (λ k t. let e = eqb-true j k t in omega arith) xs b)
+
+    abbrev before : List Line → ℕ
+    before xs = cond taken 0 (weight (showsIn (upTo l) (upTo l) all xs))
+
+    landsIn : (xs : List Line) → AllLines Lands xs
+        → weight (showsIn s s all xs) ≡ before xs + weight (showsIn d d all xs)
+    unfolding showsIn weight
+    landsIn [] b = split taken (λ t. rw t) (λ f. rw f)
+    landsIn (delete k ∷ xs) b = landsIn xs (b .1)
+    landsIn (row j w ∷ xs) b = let ih = landsIn xs (b .1) in let c = concealed (upTo l) all xs j in
+        let rest = weight (showsIn (upTo l) (upTo l) all xs) in let more = weight (showsIn d d all xs) in
+        rw (weight-cond (s j && not (concealed s all xs j)) w (showsIn s s all xs),
+          weight-cond (leb j l && not c) w (showsIn (upTo l) (upTo l) all xs),
+          weight-cond (d j && not (concealed d all xs j)) w (showsIn d d all xs), ih)
+        (split (leb j l)
+          (λ t. let h = leb-true j l t in rw (b .0, t, unlanded j h, concealed-low j h xs (b .1)) (low-row taken c w rest more))
+          (λ f. let h = leb-false j l f in rw (b .0, f, concealed-high j h xs (b .1))
+            (split taken (λ t. rw t (swap (cond (d j && not (concealed d all xs j)) (milligrams w) 0) 0 more))
+              (λ u. rw u (swap-0 (cond (d j && not (concealed d all xs j)) (milligrams w) 0) rest more)))))
+      where
+        unlanded : (j : ℕ) → j ≤ l → d j ≡ false
+        unlanded j h = split (d j) (λ t. let g = above j t in absurd (omega arith)) (λ f. f)
+        swap : (x y z : ℕ) → x + (y + z) ≡ y + (x + z)
+        swap x y z = omega arith
+        swap-0 : (x y z : ℕ) → x + (y + z) ≡ (0 + y) + (x + z)
+        swap-0 x y z = omega arith
+        low-row : (t c : Bool) (w rest more : ℕ)
+            → cond (not (t || c)) (milligrams w) 0 + (cond t 0 rest + more)
+              ≡ cond t 0 (cond (not c) (milligrams w) 0 + rest) + (0 + more)
+        low-row true c w rest more = refl
+        low-row false c w rest more = omega arith
+
+  pub lines-land : (xs : List Line) → AllLines Lands xs
+      → weight (shows s s xs) ≡ cond (anyDelete d xs) 0 (weight (shows (upTo l) (upTo l) xs)) + weight (shows d d xs)
+  unfolding shows
+  lines-land xs a = landsIn xs a xs a
+
+  -- of spans whose epochs are so
+  pub total-lands : (ss : List Span) → AllLines Lands (linesOf ss)
+      → weightBy s ss ≡ cond (anyOf (λ t. isDelete t && d (t .epoch)) ss) 0 (total l ss) + weightBy d ss
+  total-lands ss a = rw (weight-lines s ss, total-lines l ss, weight-lines d ss, ← anyDelete-lines d ss)
+      (lines-land (linesOf ss) a)
