@@ -1,0 +1,117 @@
+-- The pass that weighs, as a sum over a sound partition's entries. Definitions: specs/Weighed.antt;
+-- rules/specs/Weight.antt.
+-- In order: weight; the rows between two; the pass.
+-- Assumes nothing.
+use mathlib.Core.Path.{_≡_, refl, _∙_}
+use mathlib.Core.Bool.{true, cond}
+use mathlib.Core.List.{List, [], _∷_, _++_, foldl}
+use Prim.Native.Nat.{ℕ, _+_, _-_, _*_, _≤_}
+use native.Mathlib.Omega.{arith}
+use lib.Dec.{leb}
+use lib.ListN.{length, take, drop, length-take}
+use lib.Seq.{take-add, drop-drop}
+use borrow.Author.Tests.{leb-true, le-leb}
+use Rattle.lists.specs.Lists.{part}
+use Rattle.lists.proofs.Laws.Bools.{split}
+use Rattle.lists.proofs.Laws.Parts.{take-part, drop-take}
+use Rattle.rules.specs.Limits.{rowsMax}
+use Rattle.rules.specs.Weight.{weight}
+use Rattle.rules.specs.WellFormed.{endsOk}
+use Rattle.rules.specs.declared.Entry.{Entry}
+use Rattle.laws.proofs.Laws.Span.{end-ok, endsOk-le}
+use Rattle.totals.specs.Reach.{shows}
+use Rattle.totals.specs.Weighed.{weighed, room, plus, closedOf, tallyTurn}
+use Rattle.totals.specs.declared.Cut.{Cut}
+use Rattle.totals.specs.declared.Tally.{Tally}
+
+-- ---- weight
+
+pub weight-append : (xs ys : List ℕ) → weight (xs ++ ys) ≡ weight xs + weight ys
+unfolding weight
+weight-append [] ys = omega arith
+weight-append (x ∷ xs) ys = let ih = weight-append xs ys in omega arith
+
+pub weight-most : (xs : List ℕ) → weight xs ≤ 4294967295 * length xs
+unfolding weight
+weight-most [] = omega arith
+weight-most (x ∷ xs) = let ih = weight-most xs in omega arith
+
+-- ---- the rows from a up to b
+
+abbrev pub rowsFrom : List ℕ → ℕ → ℕ → ℕ → List ℕ
+rowsFrom rs base a b = part (base + a) (b - a) rs
+
+module _ (rs : List ℕ) (base a b d : ℕ) (ab : a ≤ b) (bd : b ≤ d) where
+  rows-split : rowsFrom rs base a d ≡ rowsFrom rs base a b ++ rowsFrom rs base b d
+  rows-split = let x : d - a ≡ (b - a) + (d - b) = omega arith in
+      let y : (base + a) + (b - a) ≡ base + b = omega arith in
+      rw (x, take-add (b - a) (d - b) (drop (base + a) rs), drop-drop (b - a) (base + a) rs, y)
+
+  pub rows-take : take (b - a) (rowsFrom rs base a d) ≡ rowsFrom rs base a b
+  rows-take = take-part (base + a) (d - a) (b - a) rs (omega arith)
+
+  pub rows-drop : drop (b - a) (rowsFrom rs base a d) ≡ rowsFrom rs base b d
+  rows-drop = let x : d - a ≡ (b - a) + (d - b) = omega arith in
+      let y : (base + a) + (b - a) ≡ base + b = omega arith in
+      rw (x, drop-take (b - a) (d - b) (drop (base + a) rs), drop-drop (b - a) (base + a) rs, y)
+
+rows-most : (rs : List ℕ) (base a b : ℕ) → weight (rowsFrom rs base a b) ≤ 4294967295 * (b - a)
+rows-most rs base a b = let m = weight-most (rowsFrom rs base a b) in
+    let l = length-take (b - a) (drop (base + a) rs) in omega arith
+
+-- ---- the pass
+
+-- of the entries that begin at row k, what the rows weigh that a cut shows
+unfoldable pub shownSum : List ℕ → Cut → ℕ → List Entry → ℕ
+shownSum rs c k [] = 0
+shownSum rs c k (e ∷ es) =
+    cond (shows c k (e .epoch)) (weight (rowsFrom rs (c .base) k (e .end))) 0 + shownSum rs c (e .end) es
+
+-- a tally as the pass makes it: no row weighs more than 4,294,967,295
+pub record Small (t : Tally) : Type 0 where
+  pub ends : t .from ≤ t .end
+  pub sums : t .sum ≤ 4294967295 * t .from
+
+module _ (rs : List ℕ) (c : Cut) (n : ℕ) (few : n ≤ rowsMax) (fits : c .base + n ≤ length rs) where
+  weighed-rows : (a b : ℕ) → a ≤ b → b ≤ n → weighed rs (c .base) a b ≡ weight (rowsFrom rs (c .base) a b)
+  unfolding weighed
+  weighed-rows a b h k =
+      rw (le-leb a b h, le-leb b rowsMax (omega arith), le-leb (c .base + b) (length rs) (omega arith))
+
+  closed-rows : (t : Tally) → Small t → t .end ≤ n
+      → closedOf rs c t ≡ t .sum + weight (rowsFrom rs (c .base) (t .from) (t .end))
+  unfolding closedOf plus weight
+  closed-rows t s k = split (leb (t .end) (t .from))
+    (λ y. let g = leb-true (t .end) (t .from) y in let z : t .end - t .from ≡ 0 = let w = s .ends in omega arith in
+          rw (y, z) (omega arith))
+    (λ f. let m = rows-most rs (c .base) (t .from) (t .end) in let p = s .ends in let q = s .sums in
+          rw (f, weighed-rows (t .from) (t .end) p k, le-leb (t .sum) room (omega arith),
+              le-leb (weight (rowsFrom rs (c .base) (t .from) (t .end))) room (omega arith)))
+
+  small-turn : (t : Tally) (e : Entry) → Small t → t .end ≤ e .end → e .end ≤ n → Small (tallyTurn rs c t e)
+  small-turn t e s h k = let p = s .ends in let q = s .sums in split (shows c (t .end) (e .epoch))
+    (λ y. rw y (record { ends = omega arith; sums = omega arith }))
+    (λ f. let m = rows-most rs (c .base) (t .from) (t .end) in
+          rw (f, closed-rows t s (omega arith)) (record { ends = omega arith; sums = omega arith }))
+
+  end-turn : (t : Tally) (e : Entry) → tallyTurn rs c t e .end ≡ e .end
+  end-turn t e = split (shows c (t .end) (e .epoch)) (λ y. rw y) (λ f. rw f)
+
+  closed-turn : (t : Tally) (e : Entry) → Small t → t .end ≤ e .end → e .end ≤ n → closedOf rs c (tallyTurn rs c t e)
+      ≡ closedOf rs c t + cond (shows c (t .end) (e .epoch)) (weight (rowsFrom rs (c .base) (t .end) (e .end))) 0
+  closed-turn t e s h k = closed-rows (tallyTurn rs c t e) (small-turn t e s h k) (rw (end-turn t e) k)
+      ∙ split (shows c (t .end) (e .epoch))
+    (λ y. let p = s .ends in rw (y, closed-rows t s (omega arith),
+            rows-split rs (c .base) (t .from) (t .end) (e .end) p h,
+            weight-append (rowsFrom rs (c .base) (t .from) (t .end)) (rowsFrom rs (c .base) (t .end) (e .end)))
+          (omega arith))
+    (λ f. let z : e .end - e .end ≡ 0 = omega arith in rw (f, z) (unfold weight in refl))
+
+  pub tally-sum : (es : List Entry) (t : Tally) → Small t → endsOk n (t .end) es ≡ true
+      → closedOf rs c (foldl (tallyTurn rs c) t es) ≡ closedOf rs c t + shownSum rs c (t .end) es
+  unfolding shownSum
+  tally-sum [] t s h = omega arith
+  tally-sum (e ∷ es) t s h = let o = end-ok n (t .end) e es h in let g = endsOk-le n (e .end) es (o .rest) in
+      let u = tallyTurn rs c t e in
+      let ih = tally-sum es u (small-turn t e s (o .low) g) (rw (end-turn t e) (o .rest)) in
+      ih ∙ rw (end-turn t e, closed-turn t e s (o .low) g) (omega arith)

@@ -1,0 +1,163 @@
+-- The pass over the entries of a sound partition weighs what a reader is shown (02 (iii)). Definitions:
+-- specs/Reach.antt, specs/Weighed.antt; rules/specs/Hides.antt, rules/specs/Weight.antt.
+-- In order: the rows that the greatest clearing leaves; weighs.
+-- Elsewhere: the pass as a sum (Laws/Tallied.antt), the greatest clearing (Laws/Clearing.antt).
+-- Assumes nothing.
+use mathlib.Core.Path.{_≡_, refl, sym, _∙_, ap}
+use mathlib.Core.Bool.{true, false, not, _&&_, _||_, cond}
+use mathlib.Core.Logic.{inl, ⊎-elim}
+use mathlib.Core.List.{List, [], _∷_, foldl}
+use Prim.Native.Nat.{ℕ, _+_, _-_, _≤_, _<_}
+use native.Mathlib.Omega.{arith}
+use native.Mathlib.Nat.{zero-add}
+use lib.Dec.{ltb, leb, eqb}
+use lib.ListN.{length, take, drop}
+use borrow.Author.Tests.{ltb-true, ltb-false, eqb-true, eqb-false, lt-ltb, le-ltb, le-leb, lt-leb, eq-eqb, ne-eqb}
+use Rattle.lists.specs.Lists.{part, anyOf}
+use Rattle.lists.proofs.Laws.Bools.{split, and-false, and-true}
+use Rattle.lists.proofs.Laws.Filter.{none-in, none-of}
+use Rattle.rules.specs.Limits.{rowsMax}
+use Rattle.rules.specs.Span.{Span, isDelete, spans}
+use Rattle.rules.specs.Hides.{hidden, shownIn, shown}
+use Rattle.rules.specs.Weight.{weight, weightBy}
+use Rattle.rules.specs.WellFormed.{endsOk}
+use Rattle.rules.specs.declared.Entry.{Entry}
+use Rattle.laws.proofs.Laws.Span.{end-ok, endsOk-le}
+use Rattle.totals.specs.Reach.{inReach, noTop, topTurn, farthest, cutOf, shows}
+use Rattle.totals.specs.Weighed.{noTally, closedOf, tallyTurn}
+use Rattle.totals.specs.declared.Reach.{Reach}
+use Rattle.totals.specs.declared.Top.{Top}
+use Rattle.totals.proofs.Laws.Clearing.{hides, reach-over, reach-last, topOf, Reached, none-greater}
+use Rattle.totals.proofs.Laws.Clearing.{top-greatest, top-reached, stands-first, edge-turn}
+use Rattle.totals.proofs.Laws.Tallied.{weight-append, rowsFrom, rows-take, rows-drop, shownSum, tally-sum}
+
+-- ---- the rows that the greatest clearing leaves
+
+-- by order of two numbers
+order : {P : Type 0} (j e : ℕ) → (j < e → P) → (j ≡ e → P) → (e < j → P) → P
+order j e lt eq gt = split (ltb j e) (λ t. lt (ltb-true j e t)) (λ f. let g = ltb-false j e f in
+    split (eqb j e) (λ t. eq (eqb-true j e t)) (λ n. gt (let h = eqb-false j e n in omega arith)))
+
+module _ (r : Reach) (base : ℕ) (t : Top) (reached : Reached r t) (all : List Span)
+    (greatest : (j : ℕ) → anyOf (hides r (ltb j)) all ≡ ltb j (t .epoch)) where
+  -- above the greatest there is none
+  none-above : (j : ℕ) (rest : List Span) → anyOf (hides r (ltb (t .epoch))) rest ≡ false → t .epoch < j
+      → anyOf (hides r (eqb j)) rest ≡ false
+  none-above j rest h l = none-of (hides r (eqb j)) rest (λ s m. less s (none-in (hides r (ltb (t .epoch))) h m))
+    where
+      less : (s : Span) → hides r (ltb (t .epoch)) s ≡ false → hides r (eqb j) s ≡ false
+      less s f = split (isDelete s)
+        (λ d. split (inReach r (s .epoch))
+          (λ i. let g = ltb-false (t .epoch) (s .epoch) (rw (d, i) at f) in
+                rw (d, i) (ne-eqb j (s .epoch) (λ q. omega arith)))
+          (λ i. rw (d, i)))
+        (λ d. rw d)
+
+  hidden-top : (rest : List Span) (j : ℕ)
+      → hidden (inReach r) all rest j ≡ ltb j (t .epoch) || anyOf (hides r (eqb j)) rest
+  unfolding hidden
+  hidden-top rest j = rw (greatest j)
+
+  -- with no clearing in reach
+  shows-none : (k : ℕ) (rest : List Span) (j : ℕ) → k < farthest → t .epoch ≡ 0
+      → anyOf (hides r (ltb (t .epoch))) rest ≡ false
+      → shows (cutOf r t base) k j ≡ inReach r j && not (hidden (inReach r) all rest j)
+  unfolding shows
+  shows-none k rest j h z below =
+      rw (eq-eqb (t .epoch) 0 z, lt-ltb k farthest h, ← reach-last r j) (split (inReach r j)
+    (λ y. let g = reach-over r j y in
+          rw (y, hidden-top rest j, le-ltb j (t .epoch) (omega arith), none-above j rest below (omega arith)))
+    (λ f. rw f))
+
+  -- with one
+  shows-some : (k : ℕ) (rest : List Span) (j : ℕ) → r .over < t .epoch
+      → anyOf (hides r (ltb (t .epoch))) rest ≡ false
+      → (j ≡ t .epoch → anyOf (hides r (eqb j)) rest ≡ ltb k (t .edge))
+      → shows (cutOf r t base) k j ≡ inReach r j && not (hidden (inReach r) all rest j)
+  unfolding shows
+  shows-some k rest j h below edge =
+      rw (ne-eqb (t .epoch) 0 (λ q. omega arith), hidden-top rest j, reach-last r j) (order j (t .epoch)
+    (λ lt. rw (lt-ltb j (t .epoch) lt, le-ltb (t .epoch) j (omega arith), lt-leb (t .epoch) j lt,
+               and-false (leb j (r .high) && not (eqb j (r .gone)) && ltb (r .over) j))
+           (split (ltb k (t .edge)) (λ y. rw y (and-false (leb j (r .high) && not (eqb j (r .gone)))))
+             (λ f. rw f (and-false (leb j (r .high) && not (eqb j (r .gone)))))))
+    (λ eq. rw (edge eq, le-ltb j (t .epoch) (omega arith), le-ltb (t .epoch) j (omega arith),
+               le-leb (t .epoch) j (omega arith), lt-ltb (r .over) j (omega arith),
+               and-true (leb j (r .high) && not (eqb j (r .gone))))
+           (split (ltb k (t .edge)) (λ y. rw y) (λ f. rw f)))
+    (λ gt. rw (none-above j rest below gt, le-ltb j (t .epoch) (omega arith), lt-ltb (t .epoch) j gt,
+               le-leb (t .epoch) j (omega arith), lt-ltb (r .over) j (omega arith),
+               and-true (leb j (r .high) && not (eqb j (r .gone))))
+           (split (ltb k (t .edge)) (λ y. rw y) (λ f. rw f))))
+
+  shows-hidden : (k : ℕ) (rest : List Span) (j : ℕ) → k < farthest
+      → anyOf (hides r (ltb (t .epoch))) rest ≡ false
+      → (j ≡ t .epoch → anyOf (hides r (eqb j)) rest ≡ ltb k (t .edge))
+      → shows (cutOf r t base) k j ≡ inReach r j && not (hidden (inReach r) all rest j)
+  shows-hidden k rest j h below edge = ⊎-elim (λ z. shows-none k rest j h z below)
+      (λ i. shows-some k rest j (reach-over r (t .epoch) i) below edge) reached
+
+-- the rows of an entry that has some
+module _ (r : Reach) (rows n : ℕ) (e : Entry) (es : List Entry) (ws : List ℕ) (t : Top)
+    (ok : endsOk rows n (e ∷ es) ≡ true) where
+  edge-first : t .edge ≤ n → n < e .end → let u = topOf r t (e ∷ es) in
+      (j : ℕ) → j ≡ u .epoch → anyOf (hides r (eqb j)) (spans n (e ∷ es) ws) ≡ ltb n (u .edge)
+  edge-first h l j q = rw q (⊎-elim
+    (λ p. let g = p .1 in p .0 ∙ sym (lt-ltb n (topOf r t (e ∷ es) .edge) (omega arith)))
+    (λ p. let g = ap (λ (x : Top). x .edge) (p .1) in p .0 ∙ sym (le-ltb n (topOf r t (e ∷ es) .edge) (omega arith)))
+    (stands-first r rows n e es ws t ok))
+
+-- ---- the pass weighs what is shown
+
+module _ (r : Reach) (rs : List ℕ) (base n : ℕ) (few : n ≤ rowsMax) (all : List Span) (u : Top) (reached : Reached r u)
+    (greatest : (j : ℕ) → anyOf (hides r (ltb j)) all ≡ ltb j (u .epoch)) where
+  -- the rows of one entry, the first of the rest
+  first-weighs : (k : ℕ) (e : Entry) (rest : List Span) → k ≤ e .end → e .end ≤ n
+      → anyOf (hides r (ltb (u .epoch))) rest ≡ false
+      → (k < e .end → e .epoch ≡ u .epoch → anyOf (hides r (eqb (e .epoch))) rest ≡ ltb k (u .edge))
+      → weight (cond (inReach r (e .epoch) && not (hidden (inReach r) all rest (e .epoch)))
+          (rowsFrom rs base k (e .end)) [])
+        ≡ cond (shows (cutOf r u base) k (e .epoch)) (weight (rowsFrom rs base k (e .end))) 0
+  unfolding weight
+  first-weighs k e rest h l below edge = split (ltb k (e .end))
+    (λ y. let g = ltb-true k (e .end) y in
+          rw (← shows-hidden r base u reached all greatest k rest (e .epoch) (omega arith) below (edge g))
+          (split (shows (cutOf r u base) k (e .epoch)) (λ a. rw a) (λ a. rw a)))
+    (λ f. let g = ltb-false k (e .end) f in let z : e .end - k ≡ 0 = omega arith in
+          rw z (split (inReach r (e .epoch) && not (hidden (inReach r) all rest (e .epoch)))
+            (λ a. rw a (split (shows (cutOf r u base) k (e .epoch)) (λ b. rw b) (λ b. rw b)))
+            (λ a. rw a (split (shows (cutOf r u base) k (e .epoch)) (λ b. rw b) (λ b. rw b)))))
+
+  shown-sum : (k : ℕ) (es : List Entry) (t : Top) → endsOk n k es ≡ true → t .edge ≤ k → topOf r t es ≡ u
+      → weight (shownIn (inReach r) (inReach r) all (spans k es (rowsFrom rs base k n)))
+        ≡ shownSum rs (cutOf r u base) k es
+  unfolding spans shownIn shownSum weight
+  shown-sum k [] t h b q = refl
+  shown-sum k (e ∷ es) t h b q =
+      let o = end-ok n k e es h in let low = o .low in let g = endsOk-le n (e .end) es (o .rest) in
+      let ws = rowsFrom rs base k n in let rest = spans k (e ∷ es) ws in
+      let ih = shown-sum (e .end) es (topTurn r t e) (o .rest) (edge-turn r t e (omega arith)) q in
+      let first = first-weighs k e rest low g (rw q at (none-greater r t k (e ∷ es) ws))
+            (λ l. rw q at (edge-first r n k e es ws t h b l (e .epoch))) in
+      let b = inReach r (e .epoch) && not (hidden (inReach r) all rest (e .epoch)) in let m = e .end - k in
+      weight-append (cond b (take m ws) []) (shownIn (inReach r) (inReach r) all (spans (e .end) es (drop m ws)))
+      ∙ sums (ap (λ v. weight (cond b v [])) (rows-take rs base k (e .end) n low g) ∙ first)
+        (ap (λ v. weight (shownIn (inReach r) (inReach r) all (spans (e .end) es v)))
+          (rows-drop rs base k (e .end) n low g) ∙ ih)
+    where
+      sums : {a b c d : ℕ} → a ≡ b → c ≡ d → a + c ≡ b + d
+      sums p q = omega arith
+
+-- of a sound partition: n rows from base on, and its entries
+pub weighs : (r : Reach) (es : List Entry) (rs : List ℕ) (base n : ℕ) → n ≤ rowsMax → base + n ≤ length rs
+    → endsOk n 0 es ≡ true
+    → let c = cutOf r (foldl (topTurn r) noTop es) base in
+      closedOf rs c (foldl (tallyTurn rs c) noTally es) ≡ weightBy (inReach r) (spans 0 es (part base n rs))
+unfolding weightBy shown closedOf
+weighs r es rs base n few fits ok =
+    let u = foldl (topTurn r) noTop es in let ws = part base n rs in
+    let y : base + 0 ≡ base = omega arith in let z : n - 0 ≡ n = omega arith in
+    tally-sum rs (cutOf r u base) n few fits es noTally (record { ends = omega arith; sums = omega arith }) ok
+    ∙ (zero-add (shownSum rs (cutOf r u base) 0 es)
+    ∙ sym (rw (y, z) at (shown-sum r rs base n few (spans 0 es ws) u (top-reached r es noTop (inl refl))
+        (top-greatest r 0 es ws) 0 es noTop ok (omega arith) refl)))
