@@ -3,16 +3,16 @@
 -- In order: weight; the rows between two; the pass.
 -- Assumes nothing.
 use mathlib.Core.Path.{_≡_, refl, _∙_}
-use mathlib.Core.Bool.{true, cond}
+use mathlib.Core.Bool.{true, _&&_, cond}
 use mathlib.Core.List.{List, [], _∷_, _++_, foldl}
-use Prim.Native.Nat.{ℕ, _+_, _-_, _*_, _≤_}
+use Prim.Native.Nat.{ℕ, _+_, _-_, _*_, _≤_, _<_}
 use native.Mathlib.Omega.{arith}
 use lib.Dec.{leb}
 use lib.ListN.{length, take, drop, length-take}
 use lib.Seq.{take-add, drop-drop}
-use borrow.Author.Tests.{leb-true, le-leb}
+use borrow.Author.Tests.{leb-true, le-leb, lt-leb}
 use Rattle.lists.specs.Lists.{part}
-use Rattle.lists.proofs.Laws.Bools.{split}
+use Rattle.lists.proofs.Laws.Bools.{split, and-false}
 use Rattle.lists.proofs.Laws.Parts.{take-part, drop-take}
 use Rattle.rules.specs.Limits.{rowsMax}
 use Rattle.rules.specs.Weight.{weight}
@@ -59,6 +59,15 @@ rows-most : (rs : List ℕ) (base a b : ℕ) → weight (rowsFrom rs base a b) �
 rows-most rs base a b = let m = weight-most (rowsFrom rs base a b) in
     let l = length-take (b - a) (drop (base + a) rs) in omega arith
 
+pub weighed-rows : (rs : List ℕ) (base a b : ℕ) → a ≤ b → b ≤ rowsMax → base + b ≤ length rs
+    → weighed rs base a b ≡ weight (rowsFrom rs base a b)
+unfolding weighed
+weighed-rows rs base a b h k l = rw (le-leb a b h, le-leb b rowsMax k, le-leb (base + b) (length rs) l)
+
+pub weighed-short : (rs : List ℕ) (base a b : ℕ) → length rs < base + b → weighed rs base a b ≡ 0
+unfolding weighed
+weighed-short rs base a b h = rw (lt-leb (base + b) (length rs) h, and-false (leb a b && leb b rowsMax))
+
 -- ---- the pass
 
 -- of the entries that begin at row k, what the rows weigh that a cut shows
@@ -73,11 +82,6 @@ pub record Small (t : Tally) : Type 0 where
   pub sums : t .sum ≤ 4294967295 * t .from
 
 module _ (rs : List ℕ) (c : Cut) (n : ℕ) (few : n ≤ rowsMax) (fits : c .base + n ≤ length rs) where
-  weighed-rows : (a b : ℕ) → a ≤ b → b ≤ n → weighed rs (c .base) a b ≡ weight (rowsFrom rs (c .base) a b)
-  unfolding weighed
-  weighed-rows a b h k =
-      rw (le-leb a b h, le-leb b rowsMax (omega arith), le-leb (c .base + b) (length rs) (omega arith))
-
   closed-rows : (t : Tally) → Small t → t .end ≤ n
       → closedOf rs c t ≡ t .sum + weight (rowsFrom rs (c .base) (t .from) (t .end))
   unfolding closedOf plus weight
@@ -85,7 +89,8 @@ module _ (rs : List ℕ) (c : Cut) (n : ℕ) (few : n ≤ rowsMax) (fits : c .ba
     (λ y. let g = leb-true (t .end) (t .from) y in let z : t .end - t .from ≡ 0 = let w = s .ends in omega arith in
           rw (y, z) (omega arith))
     (λ f. let m = rows-most rs (c .base) (t .from) (t .end) in let p = s .ends in let q = s .sums in
-          rw (f, weighed-rows (t .from) (t .end) p k, le-leb (t .sum) room (omega arith),
+          rw (f, weighed-rows rs (c .base) (t .from) (t .end) p (omega arith) (omega arith),
+              le-leb (t .sum) room (omega arith),
               le-leb (weight (rowsFrom rs (c .base) (t .from) (t .end))) room (omega arith)))
 
   small-turn : (t : Tally) (e : Entry) → Small t → t .end ≤ e .end → e .end ≤ n → Small (tallyTurn rs c t e)
