@@ -1,7 +1,12 @@
--- The crate's types as a walk takes them: the epochs in reach, the greatest clearing, what it leaves, where the
--- weighing stands, what lands.
+-- The crate's types as a walk takes them: some epochs, the greatest clearing, what it leaves, where a weighing stands,
+-- the totals of all partitions, and what a landing is given.
 -- Assumes nothing.
 use mathlib.Core.Path.{refl}
+use mir.Syntax.{w64, tyInt, tyArray}
+use denote.Array.{Array, array-vals, array-tells, array-lawful, array-makes}
+use denote.Builtin.{u64}
+use denote.Plain.{uint-vals, uint-tells, uint-lawful, uint-makes}
+use denote.Steps.{only}
 use denote.Struct.Laws as LL
 use Rattle.walks.proofs.Shown.{Shown}
 use Rattle.totals.proofs.Reach as R
@@ -12,8 +17,8 @@ use Rattle.totals.proofs.Cut as C
 use Rattle.totals.proofs.Cut.Laws as C′
 use Rattle.totals.proofs.Tally as Y
 use Rattle.totals.proofs.Tally.Laws as Y′
-use Rattle.totals.proofs.landing.Landing as N
-use Rattle.totals.proofs.landing.Landing.Laws as N′
+use Rattle.totals.proofs.landing.Landing as L
+use Rattle.totals.proofs.landing.Landing.Laws as L′
 
 abbrev pub reach : Shown
 reach = record {
@@ -39,8 +44,15 @@ tally = record {
   wt = λ 𝓤 H A G z g. LL.lawful Y.the-type Y′.the-laws 𝓤 H A G .typed z _ g .0; last = λ x. tt;
   silent = λ x f. refl; makes = λ 𝓤 H A _. LL.makes Y.the-type Y′.the-plain 𝓤 H A }
 
+abbrev pub totals : Shown
+totals = record {
+  row = Array u64 8; mir = tyArray (tyInt w64) 8; val = λ xs. only (array-vals (uint-vals w64) xs);
+  tells = array-tells u64 (uint-vals w64) (uint-tells w64) 8;
+  wt = λ 𝓤 H A G z g. array-lawful 𝓤 H A G u64 (uint-lawful 𝓤 H A G w64) 8 .typed z _ g .0; last = λ x. tt;
+  silent = λ x f. refl; makes = λ 𝓤 H A G. array-makes 𝓤 H A G u64 (uint-makes 𝓤 H A G w64) 8 }
+
 abbrev pub landing : Shown
 landing = record {
-  row = N.the-row; mir = N′.mir; val = LL.val N.the-type N′.the-laws; tells = LL.tells N.the-type N′.the-laws;
-  wt = λ 𝓤 H A G z g. LL.lawful N.the-type N′.the-laws 𝓤 H A G .typed z _ g .0; last = λ x. tt;
-  silent = λ x f. refl; makes = λ 𝓤 H A _. LL.makes N.the-type N′.the-plain 𝓤 H A }
+  row = L.the-row; mir = L′.mir; val = LL.val L.the-type L′.the-laws; tells = LL.tells L.the-type L′.the-laws;
+  wt = λ 𝓤 H A G z g. LL.lawful L.the-type L′.the-laws 𝓤 H A G .typed z _ g .0; last = λ x. tt;
+  silent = λ x f. refl; makes = λ 𝓤 H A _. LL.makes L.the-type L′.the-plain 𝓤 H A }
