@@ -1,3 +1,5 @@
 pub mod Clearing
 pub mod Tallied
 pub mod Weighs
+pub mod Lot
+pub mod Lands

@@ -10,7 +10,7 @@ use native.Mathlib.Omega.{arith}
 use lib.Dec.{ltb, leb, eqb}
 use borrow.Author.Tests.{leb-true, leb-false, eqb-true, le-ltb, eq-eqb, ne-eqb, not-true}
 use Rattle.lists.specs.Lists.{gather, keepIf, anyOf}
-use Rattle.lists.proofs.Laws.All.{All-every, All-imp, All-append, All-map, All-gather, All-allOf}
+use Rattle.lists.proofs.Laws.All.{All, All-every, All-imp, All-append, All-map, All-gather, All-allOf}
 use Rattle.lists.proofs.Laws.All.{anyOf-ext, anyOf-none, keepIf-none}
 use Rattle.lists.proofs.Laws.Bools.{split, and-left, and-right, or-right, or-false}
 use Rattle.lists.proofs.Laws.Select.{anyOf-gather, gather-append}
@@ -96,6 +96,11 @@ lines-appended i (w ∷ ws) ss = lines-extended i (w ∷ ws) ss
 pub lines-cleared : (i : ℕ) (ss : List Span) → linesOf (cleared i ss) ≡ linesOf ss ++ (delete i ∷ [])
 unfolding cleared linesOf
 lines-cleared i ss = lines-append ss (deleteSpan i ∷ [])
+
+-- marks that are the spans' epochs
+pub All-lines : (P : ℕ → Type 0) (ss : List Span) → All (λ s. P (s .epoch)) ss → AllLines (λ x. P (markOf x)) (linesOf ss)
+unfolding linesOf
+All-lines P ss h = All-gather (λ x. P (markOf x)) spanLines ss (All-imp _ _ (span-marks P) ss h)
 
 -- ---- join and roll back
 

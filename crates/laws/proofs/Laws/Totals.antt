@@ -4,7 +4,7 @@
 -- Assumes nothing.
 use mathlib.Core.Path.{_≡_, refl, subst, _∙_}
 use mathlib.Core.Bool.{Bool, true, _&&_, cond}
-use mathlib.Core.List.{List, [], _∷_, _++_}
+use mathlib.Core.List.{List, [], _∷_, _++_, map}
 use Prim.Native.Nat.{ℕ, zero, suc, _<_}
 use native.Mathlib.Omega.{arith}
 use lib.ListN.{length, getD}
@@ -58,18 +58,21 @@ unfolding totalsOk
 total-kept st ok p l = eqb-true (getD (st .state .totals) p 0) (totalAt p st)
     (tests-each (λ q. eqb (getD (st .state .totals) q 0) (totalAt q st)) (ok .totals) p l)
 
--- worked out afresh, each is its partition's
+-- a number for each partition
+pub numbered : (f : ℕ → ℕ) (p : ℕ) → p < partitionsMax → getD (map f partitionNumbers) p 0 ≡ f p
+numbered f zero h = refl
+numbered f (suc zero) h = refl
+numbered f (suc (suc zero)) h = refl
+numbered f (suc (suc (suc zero))) h = refl
+numbered f (suc (suc (suc (suc zero)))) h = refl
+numbered f (suc (suc (suc (suc (suc zero))))) h = refl
+numbered f (suc (suc (suc (suc (suc (suc zero)))))) h = refl
+numbered f (suc (suc (suc (suc (suc (suc (suc zero))))))) h = refl
+numbered f (suc (suc (suc (suc (suc (suc (suc (suc n)))))))) h = absurd (omega arith)
+
 pub totals-each : (st : Store) (p : ℕ) → p < partitionsMax → getD (totalsOf st) p 0 ≡ totalAt p st
 unfolding totalsOf
-totals-each st zero h = refl
-totals-each st (suc zero) h = refl
-totals-each st (suc (suc zero)) h = refl
-totals-each st (suc (suc (suc zero))) h = refl
-totals-each st (suc (suc (suc (suc zero)))) h = refl
-totals-each st (suc (suc (suc (suc (suc zero))))) h = refl
-totals-each st (suc (suc (suc (suc (suc (suc zero)))))) h = refl
-totals-each st (suc (suc (suc (suc (suc (suc (suc zero))))))) h = refl
-totals-each st (suc (suc (suc (suc (suc (suc (suc (suc n)))))))) h = absurd (omega arith)
+totals-each st p h = numbered (λ q. totalAt q st) p h
 
 -- ---- brought up to date
 

@@ -1,18 +1,20 @@
 -- What the rows weigh that a page is shown, beside the ledger's lines: what leaves it as it was, and what lands.
 -- Definitions: rules/specs/Weight.antt.
--- In order: by lines; append and clear above the epoch; purge; roll back; epochs that land.
+-- In order: by lines; the most; append and clear above the epoch; purge; roll back; epochs that land.
 -- Assumes nothing.
 use mathlib.Core.Path.{_≡_, refl, sym, _∙_, ap}
 use mathlib.Core.Bool.{Bool, true, false, not, _&&_, _||_, cond}
 use mathlib.Core.List.{List, [], _∷_, _++_}
-use Prim.Native.Nat.{ℕ, _+_, _≤_, _<_}
+use Prim.Native.Nat.{ℕ, _+_, _*_, _≤_, _<_}
 use native.Mathlib.Omega.{arith}
 use lib.Dec.{ltb, leb, eqb}
+use lib.ListN.{length, length-append}
 use borrow.Author.Tests.{eqb-true, ltb-true, leb-true, leb-false, lt-ltb, le-leb, lt-leb}
 use Rattle.lists.proofs.Laws.All.{All-imp, anyOf-ext}
 use Rattle.lists.specs.Lists.{anyOf}
 use Rattle.lists.proofs.Laws.Bools.{split, and-false, or-false}
-use Rattle.rules.specs.Span.{Span, isDelete}
+use Rattle.rules.specs.Span.{Span, isDelete, wordsOf}
+use Rattle.rules.specs.Hides.{hidden, shownIn, shown}
 use Rattle.rules.specs.Sees.{upTo}
 use Rattle.rules.specs.Rewrite.{rolledBack, purged, skips}
 use Rattle.rules.specs.Weight.{milligrams, weight, weightBy, total}
@@ -31,6 +33,24 @@ weight-lines s ss = ap weight (shown-lines s s ss)
 pub total-lines : (e : ℕ) (ss : List Span) → total e ss ≡ weight (shows (upTo e) (upTo e) (linesOf ss))
 unfolding total
 total-lines e ss = weight-lines (upTo e) ss
+
+-- ---- no more than the rows weigh that are there
+
+length-shownIn : (s a : ℕ → Bool) (all ss : List Span) → length (shownIn s a all ss) ≤ length (wordsOf ss)
+unfolding shownIn wordsOf
+length-shownIn s a all [] = omega arith
+length-shownIn s a all (t ∷ ss) = let ih = length-shownIn s a all ss in
+    split (s (t .epoch) && not (hidden a all (t ∷ ss) (t .epoch)))
+      (λ b. rw b (simp length-append (omega arith))) (λ f. rw f (simp length-append (omega arith)))
+
+pub weight-most : (xs : List ℕ) → weight xs ≤ 4294967295 * length xs
+unfolding weight
+weight-most [] = omega arith
+weight-most (x ∷ xs) = let ih = weight-most xs in omega arith
+
+pub weightBy-most : (s : ℕ → Bool) (ss : List Span) → weightBy s ss ≤ 4294967295 * length (wordsOf ss)
+unfolding weightBy shown
+weightBy-most s ss = let m = weight-most (shownIn s s ss ss) in let l = length-shownIn s s ss ss in omega arith
 
 -- ---- what leaves a total as it was
 

@@ -134,13 +134,17 @@ partition-facts p st lr le l h =
       row-count = rw w (sym lw); entry-count = rw (length-spans 0 es ws) (sym len);
       spans-ok = spans-ok (managerOf st) (q .rows) es ws o lw }
 
+-- its entries
+pub partition-entries : (p : ℕ) (st : Store) → PartitionOk p st
+    → EntriesOk (managerOf st) (partitionAt p st .rows) (entriesAt p st)
+partition-entries p st ok =
+    rw (ok .entries-are, ← ok .row-count) at (entries-ok (managerOf st) (spansAt p st) (ok .spans-ok))
+
 pub partition-ok : (p : ℕ) (st : Store) → PartitionOk p st
     → partitionOk (managerOf st) (st .entries) (partitionAt p st) ≡ true
 unfolding partitionOk
 partition-ok p st ok =
-    let q = partitionAt p st in let es = entriesAt p st in
-    let o : EntriesOk (managerOf st) (q .rows) es =
-      rw (ok .entries-are, ← ok .row-count) at (entries-ok (managerOf st) (spansAt p st) (ok .spans-ok)) in
+    let q = partitionAt p st in let es = entriesAt p st in let o = partition-entries p st ok in
     let f = ok .spans-ok .entries-fit in let n = ok .entry-count in
     let a = leb (q .rows) rowsMax in let b = leb (q .entries) entriesMax in let c = endsOk (q .rows) 0 es in
     let d = allOf (entryOk (managerOf st)) es in

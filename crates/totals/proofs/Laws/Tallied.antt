@@ -19,6 +19,7 @@ use Rattle.rules.specs.Weight.{weight}
 use Rattle.rules.specs.WellFormed.{endsOk}
 use Rattle.rules.specs.declared.Entry.{Entry}
 use Rattle.laws.proofs.Laws.Span.{end-ok, endsOk-le}
+use Rattle.laws.proofs.Laws.Weight.{weight-most}
 use Rattle.totals.specs.Reach.{shows}
 use Rattle.totals.specs.Weighed.{weighed, room, plus, closedOf, tallyTurn}
 use Rattle.totals.specs.declared.Cut.{Cut}
@@ -30,11 +31,6 @@ pub weight-append : (xs ys : List ℕ) → weight (xs ++ ys) ≡ weight xs + wei
 unfolding weight
 weight-append [] ys = omega arith
 weight-append (x ∷ xs) ys = let ih = weight-append xs ys in omega arith
-
-pub weight-most : (xs : List ℕ) → weight xs ≤ 4294967295 * length xs
-unfolding weight
-weight-most [] = omega arith
-weight-most (x ∷ xs) = let ih = weight-most xs in omega arith
 
 -- ---- the rows from a up to b
 
