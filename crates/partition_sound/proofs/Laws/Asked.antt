@@ -69,12 +69,12 @@ module _ (c : Clock) (js : List ℕ) where
   all-raised es qs = ap (λ (t : Partition → Bool). allOf t qs) (λ k q. partitionOk-raised es q k)
 
 -- of what is asked of a manager it is the test of the lots
-pub rest-asked : (s : State) (es : List Entry) (m : ℕ)
-    → restAsked es m (askedOf (s .clock) (s .writers) (s .partitions)) ≡ restOk s es (length es) m
+pub rest-asked : (s : State) (es : List Entry) (rows : List ℕ)
+    → restAsked es rows (askedOf (s .clock) (s .writers) (s .partitions) (s .totals)) ≡ restOk s es rows
 unfolding restAsked restOk
-rest-asked s es m =
+rest-asked s es rows =
     let c = s .clock in let js = epochsOf (s .writers) in let ps = s .partitions in
     split (areasOk ps)
       (λ t. rw (t, take-pad writersMax 0 js, all-raised c js es (ps .at),
-        partitionsOk-each (managerIn s) es ps js _ t refl refl, and-true (lengthsAre (length es) m)))
-      (λ n. rw (n, partitionsOk-shared (managerIn s) es ps n, and-false (lengthsAre (length es) m)))
+        partitionsOk-each (managerIn s) es ps js _ t refl refl, and-true (lengthsAre (length es) (length rows))))
+      (λ n. rw (n, partitionsOk-shared (managerIn s) es ps n, and-false (lengthsAre (length es) (length rows))))

@@ -1,21 +1,23 @@
--- One pass over a list of entries finds whether they are chained.
--- In order: an entry after another, the pass.
+-- One pass over a list of entries finds whether they are chained, and, where they are, whether one is a delete.
+-- In order: an entry after another, the pass, the deletes.
 -- Definitions: specs/Pass.antt.
 -- Assumes nothing.
-use mathlib.Core.Path.{_≡_, refl, ap, _∙_}
-use mathlib.Core.Bool.{Bool, true, false, not, _&&_, cond}
+use mathlib.Core.Path.{_≡_, refl, sym, ap, _∙_}
+use mathlib.Core.Bool.{Bool, true, false, not, _&&_, _||_, cond}
 use mathlib.Core.List.{List, [], _∷_, foldl}
 use Prim.Native.Nat.{ℕ, zero, suc, _<_}
 use native.Mathlib.Omega.{arith}
 use lib.ListN.{take}
 use lib.Dec.{ltb, leb, eqb}
 use borrow.Author.Tests.{eqb-true, eqb-false, ne-eqb, ltb-true, le-leb, lt-leb}
-use Rattle.lists.proofs.Laws.Bools.{split, and-false, and-true}
+use Rattle.lists.specs.Lists.{anyOf}
+use Rattle.lists.proofs.Laws.Bools.{split, and-false, and-true, or-false}
 use Rattle.lists.proofs.Laws.Tests.{no-proof}
 use Rattle.rules.specs.declared.Clock.{Clock}
 use Rattle.rules.specs.declared.Entry.{Entry}
 use Rattle.partition_sound.specs.Sound.{epochOkBy, follows, chained}
 use Rattle.partition_sound.specs.Pass.{foundIn, comesAfter, badOf, stepOf}
+use Rattle.partition_sound.specs.Rest.{startOf}
 use Rattle.partition_sound.specs.declared.Held.{Held}
 use Rattle.partition_sound.specs.declared.Last.{Last}
 
@@ -74,7 +76,7 @@ module _ (c : Clock) (n : ℕ) (ws : List ℕ) where
 
   -- what is held after an entry that may stand there
   abbrev on : Last → Entry → Last
-  on s e = record { entry = e; ok = s .ok }
+  on s e = record { entry = e; ok = s .ok; cleared = eqb (e .mark) 1 || s .cleared }
 
   module _ (s : Last) (e : Entry) (es : List Entry) where
     after-yes : comesAfter ws held (s .entry) e ≡ true → after s (e ∷ es) ≡ after (on s e) es
@@ -94,3 +96,35 @@ module _ (c : Clock) (n : ℕ) (ws : List ℕ) where
     where
       told : {x y : Last} → x ≡ y → x .ok && eqb (x .entry .end) rows ≡ y .ok && eqb (y .entry .end) rows
       told p = ap (λ (z : Last). z .ok && eqb (z .entry .end) rows) p
+
+  -- ---- the deletes
+
+  abbrev isDelete : Entry → Bool
+  isDelete e = eqb (e .mark) 1
+
+  -- one that does not come after the one before it stays told
+  stays-bad : (s : Last) (es : List Entry) → s .ok ≡ false → after s es .ok ≡ false
+  stays-bad s [] h = h
+  stays-bad s (e ∷ es) h = let yes = stays-bad (on s e) es h in let no = stays-bad (badOf s) es refl in
+      split (comesAfter ws held (s .entry) e)
+      (λ t. ap (λ (z : Last). z .ok) (after-yes s e es t) ∙ yes)
+      (λ n. ap (λ (z : Last). z .ok) (after-no s e es n) ∙ no)
+
+  in-turn : (x y z : Bool) → (x || y) || z ≡ y || (x || z)
+  in-turn false y z = refl
+  in-turn true true z = refl
+  in-turn true false z = refl
+
+  cleared-by : (s : Last) (es : List Entry) → after s es .ok ≡ true
+      → after s es .cleared ≡ s .cleared || anyOf isDelete es
+  cleared-by s [] h = sym (or-false (s .cleared))
+  cleared-by s (e ∷ es) h = let yes = cleared-by (on s e) es in
+      split (comesAfter ws held (s .entry) e)
+      (λ t. ap (λ (z : Last). z .cleared) (after-yes s e es t)
+        ∙ (yes (sym (ap (λ (z : Last). z .ok) (after-yes s e es t)) ∙ h)
+          ∙ in-turn (isDelete e) (s .cleared) (anyOf isDelete es)))
+      (λ n. no-proof (sym (ap (λ (z : Last). z .ok) (after-no s e es n) ∙ stays-bad (badOf s) es refl) ∙ h))
+
+  pub pass-cleared : (es : List Entry) → after startOf es .ok ≡ true
+      → after startOf es .cleared ≡ anyOf isDelete es
+  pass-cleared es h = cleared-by startOf es h

@@ -1,43 +1,128 @@
--- The pass over all partitions finds the test of what is asked.
--- In order: what is known once a partition was gone over, one partition, those below p, all.
--- Definitions: specs/Rest.antt.
+-- The pass over all partitions, as the code makes it turn by turn, finds *sound* but for the manager.
+-- In order: the pass; a partition that is well; what it weighs; one partition; those below p; all.
+-- Definitions: specs/Rest.antt, specs/Asked.antt.
 -- Assumes nothing.
-use mathlib.Core.Path.{_≡_, refl, sym, ap, _∙_}
-use mathlib.Core.Bool.{Bool, true, false, _&&_}
-use mathlib.Core.List.{List, [], _∷_, _++_, foldl}
+use mathlib.Core.Path.{_≡_, refl, sym, ap, subst, _∙_}
+use mathlib.Core.Bool.{Bool, true, false, not, _&&_, _||_, cond}
+use mathlib.Core.List.{List, [], _∷_, foldl}
 use Prim.Native.Nat.{ℕ, zero, suc, _+_, _*_, _-_, _≤_, _<_}
 use native.Mathlib.Omega.{arith}
-use lib.ListN.{length, take}
-use lib.Seq.{take-suc, take-all}
-use lib.Dec.{leb, eqb}
-use borrow.Author.Tests.{eqb-true, leb-true, lt-ltb}
-use Rattle.lists.specs.Lists.{allOf, part}
-use Rattle.lists.proofs.Laws.Bools.{split, and-left, and-right, and-true, and-assoc}
+use lib.ListN.{length, take, drop, getD}
+use lib.Dec.{ltb, leb, eqb}
+use borrow.Author.Tests.{leb-true, ltb-true, ltb-false, eqb-true, le-leb, lt-ltb, ne-eqb}
+use Rattle.lists.specs.Lists.{allOf, anyOf, part}
+use Rattle.lists.proofs.Laws.All.{All, All-imp, All-allOf, allOf-All, All-getD, getD-All, All-anyOf}
+use Rattle.lists.proofs.Laws.Bools.{split, split-eq, and-left, and-right, and-both, and-true, and-false}
+use Rattle.lists.proofs.Laws.Tests.{and-comm}
 use Rattle.rules.specs.Limits.{rowsMax, entriesMax, areasMax, partitionsMax}
-use Rattle.rules.specs.Store.{noPartition}
-use Rattle.rules.specs.WellFormed.{areasOk}
+use Rattle.rules.specs.Span.{Span, spans}
+use Rattle.rules.specs.Sees.{upTo}
+use Rattle.rules.specs.Weight.{weight, weightBy, total}
+use Rattle.rules.specs.Ledger.{Line}
+use Rattle.rules.specs.Store.{noPartition, partitionNumbers}
+use Rattle.rules.specs.WellFormed.{areasOk, endsOk, apart}
+use Rattle.rules.specs.declared.Clock.{Clock}
 use Rattle.rules.specs.declared.Entry.{Entry}
 use Rattle.rules.specs.declared.Partition.{Partition}
+use Rattle.laws.proofs.Laws.Lines.{markOf, Agree, shows-agree}
+use Rattle.laws.proofs.Laws.LinesOf.{linesOf, All-lines}
+use Rattle.laws.proofs.Laws.Store.{own-area}
+use Rattle.laws.proofs.Laws.Weight.{weight-lines, total-lines}
 use Rattle.laws.proofs.Laws.WellFormed.{areas-facts}
 use Rattle.area.specs.Load.{partitionIn}
 use Rattle.lent.specs.Shapes.{turned}
-use Rattle.lent.proofs.Turned.{turned-part}
-use Rattle.partition_sound.specs.Sound.{partitionOkBy, beforeFirst, chained}
-use Rattle.partition_sound.specs.Asked.{lengthsAre, restAsked}
+use Rattle.totals.specs.Places.{fromOf, toOf}
+use Rattle.totals.specs.Reach.{inReach, noTop, topTurn}
+use Rattle.totals.specs.Weighed.{noTally, closedOf, tallyTurn}
+use Rattle.totals.specs.Landing.{landCut}
+use Rattle.totals.specs.declared.Reach.{Reach}
+use Rattle.totals.specs.declared.Top.{Top}
+use Rattle.totals.specs.declared.Cut.{Cut}
+use Rattle.totals.specs.declared.Tally.{Tally}
+use Rattle.totals.proofs.Laws.Lot.{Placed, Lies, lot-turned, lot-weighs}
+use Rattle.partition_sound.specs.Sound.{entryOkBy, epochOkBy, partitionOkBy, beforeFirst, chained}
+use Rattle.partition_sound.specs.Asked.{lengthsAre, spansOf, totalsAre, restAsked}
 use Rattle.partition_sound.specs.Pass.{stepOf}
-use Rattle.partition_sound.specs.Rest.{heldOf, startOf, begins, inPlace, fromOf, toOf, judgedOf}
+use Rattle.partition_sound.specs.Rest.{heldOf, startOf, begins, reachOf, wellBy, weighedTo, clearedTo, judgedOf}
 use Rattle.partition_sound.specs.declared.Asked.{Asked}
 use Rattle.partition_sound.specs.declared.Last.{Last}
-use Rattle.partition_sound.proofs.Laws.Pass.{pass-chains}
-use Rattle.partition_sound.proofs.Laws.Sound.{partitionOkBy-many, partitionOkBy-pass}
+use Rattle.partition_sound.proofs.Laws.Pass.{pass-chains, pass-cleared}
+use Rattle.partition_sound.proofs.Laws.Sound.{partitionOkBy-pass, partitionOkBy-many}
 
-module _ (es : List Entry) (a : Asked) where
-  abbrev next : Last → Entry → Last
-  next = stepOf (a .epochs) (heldOf a)
+both-ways : (b c : Bool) → (b ≡ true → c ≡ true) → (c ≡ true → b ≡ true) → b ≡ c
+both-ways true c f g = sym (f refl)
+both-ways false true f g = g refl
+both-ways false false f g = refl
 
+-- a partition that is well, by its parts
+record Parts (c : Clock) (js : List ℕ) (es : List Entry) (q : Partition) : Type 0 where
+  fits : q .rows ≤ rowsMax
+  few : q .entries ≤ entriesMax
+  ends : endsOk (q .rows) 0 (part (entriesMax * q .area) (q .entries) es) ≡ true
+  low : All (λ e. 1 ≤ e .epoch) (part (entriesMax * q .area) (q .entries) es)
+
+parts-of : (c : Clock) (js : List ℕ) (es : List Entry) (q : Partition) → partitionOkBy c js es q ≡ true → Parts c js es q
+unfolding partitionOkBy epochOkBy
+parts-of c js es q h =
+    let own = part (entriesMax * q .area) (q .entries) es in let x = leb (q .rows) rowsMax in
+    let y = leb (q .entries) entriesMax in let e = endsOk (q .rows) 0 own in let o = allOf (entryOkBy c js) own in
+    let xyeo = and-left (x && y && e && o) (apart own) h in let xye = and-left (x && y && e) o xyeo in
+    let xy = and-left (x && y) e xye in record {
+      fits = leb-true (q .rows) rowsMax (and-left x y xy); few = leb-true (q .entries) entriesMax (and-right x y xy);
+      ends = and-right (x && y) e xye;
+      low = All-imp _ _ (λ d g. leb-true 1 (d .epoch) (and-left _ _ (and-left _ _ (and-right (leb (d .mark) 1) _ g)))) own
+        (All-allOf (entryOkBy c js) own (and-right (x && y && e) o xyeo)) }
+
+-- no delete, no greatest one
+top-still : (r : Reach) (t : Top) (es : List Entry) → All (λ e. eqb (e .mark) 1 ≡ false) es → foldl (topTurn r) t es ≡ t
+top-still r t [] h = refl
+top-still r t (e ∷ es) h = rw (h .0) (top-still r t es (h .1))
+
+-- the spans' epochs are the entries'
+epochs-spans : (n : ℕ) (es : List Entry) (ws : List ℕ) → All (λ e. 1 ≤ e .epoch) es
+    → All (λ s. 1 ≤ s .epoch) (spans n es ws)
+unfolding spans
+epochs-spans n [] ws h = tt
+epochs-spans n (e ∷ es) ws h = (h .0, epochs-spans (e .end) es (drop (e .end - n) ws) (h .1))
+
+-- a page at LCE sees the epochs from 1 on up to it
+page-reach : (lce j : ℕ) → 1 ≤ j → inReach (record { over = 0; high = lce; gone = 0 }) j ≡ upTo lce j
+unfolding inReach
+page-reach lce j h = rw (lt-ltb 0 j h, ne-eqb j 0 (λ e. omega arith)) (and-true (leb j lce))
+
+pub page-weighs : (lce : ℕ) (ss : List Span) → All (λ s. 1 ≤ s .epoch) ss
+    → weightBy (inReach (record { over = 0; high = lce; gone = 0 })) ss ≡ total lce ss
+page-weighs lce ss h = let r : ℕ → Bool = inReach (record { over = 0; high = lce; gone = 0 }) in
+    weight-lines r ss ∙ (ap weight (shows-agree r r (upTo lce) (upTo lce) (linesOf ss) (All-imp _ _ same (linesOf ss)
+      (All-lines (λ j. 1 ≤ j) ss h))) ∙ sym (total-lines lce ss))
+  where
+    same : (x : Line) → 1 ≤ markOf x → Agree (inReach (record { over = 0; high = lce; gone = 0 })) (inReach (record {
+        over = 0; high = lce; gone = 0 })) (upTo lce) (upTo lce) x
+    same x q = (page-reach lce (markOf x) q, page-reach lce (markOf x) q)
+
+-- ---- the pass
+
+module _ (es : List Entry) (rows : List ℕ) (a : Asked) where
   -- what the pass over partition q tells
   abbrev pub lastAt : Partition → Last
-  lastAt q = turned next startOf es (fromOf q) (toOf q - fromOf q)
+  lastAt q = turned (stepOf (a .epochs) (heldOf a)) startOf es (fromOf q) (toOf q - fromOf q)
+
+  -- up to where it is weighed, and its greatest clearing sought
+  abbrev pub endAt : Partition → ℕ
+  endAt q = weighedTo q (lastAt q) (fromOf q) (toOf q)
+
+  abbrev pub stopAt : Partition → ℕ
+  stopAt q = clearedTo (lastAt q) (fromOf q) (endAt q)
+
+  -- its greatest clearing, what this leaves, and where its weighing stands
+  abbrev pub topAt : Partition → Top
+  topAt q = turned (topTurn (reachOf a)) noTop es (fromOf q) (stopAt q - fromOf q)
+
+  abbrev pub cutAt : Partition → Cut
+  cutAt q = landCut (reachOf a) q (topAt q)
+
+  abbrev pub tallyAt : Partition → Tally
+  tallyAt q = turned (tallyTurn rows (cutAt q)) noTally es (fromOf q) (endAt q - fromOf q)
 
   abbrev pub placeAt : ℕ → Partition
   placeAt p = partitionIn (a .partitions) p
@@ -45,7 +130,8 @@ module _ (es : List Entry) (a : Asked) where
   -- after p partitions
   unfoldable pub okUpTo : Bool → ℕ → Bool
   okUpTo ok zero = ok
-  okUpTo ok (suc p) = judgedOf (okUpTo ok p) (placeAt p) (lastAt (placeAt p))
+  okUpTo ok (suc p) = judgedOf rows (okUpTo ok p) (a .totals) p (placeAt p) (lastAt (placeAt p)) (cutAt (placeAt p))
+      (tallyAt (placeAt p))
 
   abbrev js : List ℕ
   js = take (a .count) (a .epochs)
@@ -53,90 +139,144 @@ module _ (es : List Entry) (a : Asked) where
   abbrev okBy : Partition → Bool
   okBy = partitionOkBy (a .clock) js es
 
-  judge : (ok n e s : Bool) → ((ok && n) && e) && s ≡ ok && (n && (s && e))
-  judge false n e s = refl
-  judge true false e s = refl
-  judge true true true true = refl
-  judge true true true false = refl
-  judge true true false true = refl
-  judge true true false false = refl
+  -- its total is the one that is kept
+  abbrev weighsBy : ℕ → Partition → Bool
+  weighsBy p q = eqb (getD (a .totals) p 0) (total (a .lce) (spansOf es rows q))
 
-  -- one partition, where its area is one of the nine
-  module _ (len : length es ≡ entriesMax * areasMax) (q : Partition) (inside : q .area < areasMax) where
+  -- ---- one partition, where its area is one of the nine
+  module _ (len : length es ≡ entriesMax * areasMax) (lenr : length rows ≡ rowsMax * areasMax) (q : Partition)
+      (inside : q .area < areasMax) where
     abbrev counts : Bool
     counts = leb (q .rows) rowsMax && leb (q .entries) entriesMax
 
-    abbrev ps : List Entry
-    ps = part (entriesMax * q .area) (q .entries) es
+    abbrev own : List Entry
+    own = part (entriesMax * q .area) (q .entries) es
 
-    module _ (t : counts ≡ true) where
-      few : q .entries ≤ entriesMax
-      few = leb-true (q .entries) entriesMax (and-right (leb (q .rows) rowsMax) (leb (q .entries) entriesMax) t)
-
-      in-place : inPlace q ≡ true
-      in-place = rw (lt-ltb (q .area) areasMax inside)
-          (and-right (leb (q .rows) rowsMax) (leb (q .entries) entriesMax) t)
-
-      from-is : fromOf q ≡ entriesMax * q .area
-      unfolding fromOf
-      from-is = rw in-place
-
-      to-is : toOf q ≡ entriesMax * q .area + q .entries
-      unfolding toOf
-      to-is = rw in-place
-
-      fits : fromOf q + q .entries ≤ length es
-      fits = let f = from-is in let n = few in omega arith
-
-      last-is : lastAt q ≡ foldl next startOf ps
-      last-is = let f = from-is in let u = to-is in let n : toOf q - fromOf q ≡ q .entries = omega arith in
-          rw n (turned-part next startOf es (fromOf q) (q .entries) fits ∙ rw f)
-
-      passed : lastAt q .ok && eqb (lastAt q .entry .end) (q .rows) ≡ chained (a .clock) js (q .rows) beforeFirst ps
-      passed = ap (λ (s : Last). s .ok && eqb (s .entry .end) (q .rows)) last-is
-          ∙ pass-chains (a .clock) (a .count) (a .epochs) (q .rows) startOf ps
+    abbrev ws : List ℕ
+    ws = part (rowsMax * q .area) (q .rows) rows
 
     abbrev well : Bool
-    well = lastAt q .ok && eqb (lastAt q .entry .end) (q .rows)
+    well = wellBy q (lastAt q)
 
-    judged-is : (ok : Bool) → judgedOf ok q (lastAt q) ≡ ok && okBy q
-    unfolding judgedOf
-    judged-is ok = judge ok counts (eqb (lastAt q .entry .end) (q .rows)) (lastAt q .ok)
-        ∙ split counts
-        (λ t. ap (λ (b : Bool). ok && b) (ap (λ (b : Bool). b && well) t
+    placed : counts ≡ true → Placed es q
+    placed t = record { entries-length = len; inside = inside;
+      few = leb-true (q .entries) entriesMax (and-right (leb (q .rows) rowsMax) (leb (q .entries) entriesMax) t) }
+
+    last-is : counts ≡ true → lastAt q ≡ foldl (stepOf (a .epochs) (heldOf a)) startOf own
+    last-is t = lot-turned es q (placed t) (stepOf (a .epochs) (heldOf a)) startOf
+
+    passed : counts ≡ true
+        → lastAt q .ok && eqb (lastAt q .entry .end) (q .rows) ≡ chained (a .clock) js (q .rows) beforeFirst own
+    passed t = ap (λ (s : Last). s .ok && eqb (s .entry .end) (q .rows)) (last-is t)
+        ∙ pass-chains (a .clock) (a .count) (a .epochs) (q .rows) startOf own
+
+    well-is : well ≡ okBy q
+    well-is = split counts
+        (λ t. rw t (and-comm (eqb (lastAt q .entry .end) (q .rows)) (lastAt q .ok)
           ∙ (passed t ∙ sym (partitionOkBy-pass (a .clock) js es q t))))
-        (λ n. ap (λ (b : Bool). ok && b) (ap (λ (b : Bool). b && well) n
-          ∙ sym (partitionOkBy-many (a .clock) js es q n)))
+        (λ n. rw n (sym (partitionOkBy-many (a .clock) js es q n)))
 
-  -- the partitions below p
-  all-one-more : (xs : List Partition) (q : Partition) → allOf okBy (xs ++ (q ∷ [])) ≡ allOf okBy xs && okBy q
-  all-one-more [] q = and-true (okBy q)
-  all-one-more (x ∷ xs) q = rw (all-one-more xs q) (sym (and-assoc (okBy x) (allOf okBy xs) (okBy q)))
+    -- ---- what it weighs, where it is well
+    module _ (w : well ≡ true) where
+      parts : Parts (a .clock) js es q
+      parts = parts-of (a .clock) js es q (sym well-is ∙ w)
 
-  abbrev at : List Partition
-  at = a .partitions .at
+      counted : counts ≡ true
+      counted = and-both _ _ (le-leb (q .rows) rowsMax (parts .fits)) (le-leb (q .entries) entriesMax (parts .few))
 
-  upto-is : length es ≡ entriesMax * areasMax → length at ≡ partitionsMax
-      → ((p : ℕ) → p < partitionsMax → placeAt p .area < areasMax)
-      → (p : ℕ) → p ≤ partitionsMax → okUpTo true p ≡ allOf okBy (take p at)
-  unfolding okUpTo
-  upto-is len eight inside zero h = refl
-  upto-is len eight inside (suc p) h =
-      rw (judged-is len (placeAt p) (inside p h) (okUpTo true p), upto-is len eight inside p (omega arith),
-        take-suc at p noPartition (omega arith)) (sym (all-one-more (take p at) (placeAt p)))
+      lies : Lies es rows q
+      lies = record { placed = placed counted; rows-length = lenr; fits = parts .fits; ends = parts .ends }
+
+      end-is : endAt q ≡ toOf q
+      unfolding weighedTo
+      end-is = rw w
+
+      all-well : lastAt q .ok ≡ true
+      all-well = and-right (counts && eqb (lastAt q .entry .end) (q .rows)) (lastAt q .ok) w
+
+      cleared-is : lastAt q .cleared ≡ anyOf (λ e. eqb (e .mark) 1) own
+      cleared-is = ap (λ (s : Last). s .cleared) (last-is counted)
+          ∙ pass-cleared (a .clock) (a .count) (a .epochs) own (sym (ap (λ (s : Last). s .ok) (last-is counted)) ∙ all-well)
+
+      top-is : topAt q ≡ foldl (topTurn (reachOf a)) noTop own
+      unfolding clearedTo turned
+      top-is = split (lastAt q .cleared)
+        (λ t. rw (t, end-is) (lot-turned es q (placed counted) (topTurn (reachOf a)) noTop))
+        (λ f. let z : fromOf q - fromOf q ≡ 0 = omega arith in
+          rw (f, z) (sym (top-still (reachOf a) noTop own (All-anyOf _ own (sym cleared-is ∙ f)))))
+
+      weighed-is : closedOf rows (cutAt q) (tallyAt q) ≡ total (a .lce) (spansOf es rows q)
+      unfolding spansOf
+      weighed-is = rw (top-is, end-is, lot-turned es q (placed counted) (tallyTurn rows (landCut (reachOf a) q (foldl
+          (topTurn (reachOf a)) noTop own))) noTally)
+          (lot-weighs es rows q lies (reachOf a) ∙ page-weighs (a .lce) (spans 0 own ws) (epochs-spans 0 own ws (parts .low)))
+
+    judged-is : (ok : Bool) (p : ℕ) → p < partitionsMax
+        → judgedOf rows ok (a .totals) p q (lastAt q) (cutAt q) (tallyAt q) ≡ ok && (okBy q && weighsBy p q)
+    unfolding judgedOf
+    judged-is ok p h = split well
+        (λ w. rw (← well-is, w, lt-ltb p partitionsMax h, weighed-is w) (in-turn ok (weighsBy p q)))
+        (λ n. rw (← well-is, n, and-false ok))
+      where
+        in-turn : (x y : Bool) → ((x && true) && true) && y ≡ x && (true && y)
+        in-turn true y = refl
+        in-turn false y = refl
+
+  -- ---- the partitions below p
+
+  abbrev good : ℕ → Bool
+  good p = okBy (placeAt p) && weighsBy p (placeAt p)
+
+  module _ (len : length es ≡ entriesMax * areasMax) (lenr : length rows ≡ rowsMax * areasMax)
+      (eight : length (a .partitions .at) ≡ partitionsMax)
+      (inside : (p : ℕ) → p < partitionsMax → placeAt p .area < areasMax) where
+    upto-suc : (p : ℕ) → p < partitionsMax → okUpTo true (suc p) ≡ okUpTo true p && good p
+    unfolding okUpTo
+    upto-suc p h = judged-is len lenr (placeAt p) (inside p h) (okUpTo true p) p h
+
+    upto-each : (k : ℕ) → k ≤ partitionsMax → okUpTo true k ≡ true → (p : ℕ) → p < k → good p ≡ true
+    upto-each zero h t p l = absurd (omega arith)
+    upto-each (suc k) h t p l = let e = sym (upto-suc k h) ∙ t in
+        let ih = upto-each k (omega arith) (and-left (okUpTo true k) (good k) e) p in
+        split-eq p k (λ s. rw s (and-right (okUpTo true k) (good k) e)) (λ ne. ih (under ne))
+      where
+        under : (p ≡ k → ⊥) → p < k
+        under ne = split (ltb p k) (λ t. ltb-true p k t) (λ f. absurd (ne (let g = ltb-false p k f in omega arith)))
+
+    each-upto : ((p : ℕ) → p < partitionsMax → good p ≡ true) → (k : ℕ) → k ≤ partitionsMax → okUpTo true k ≡ true
+    unfolding okUpTo
+    each-upto h zero l = refl
+    each-upto h (suc k) l = upto-suc k l ∙ and-both (okUpTo true k) (good k) (each-upto h k (omega arith)) (h k l)
+
+    all-good : okUpTo true partitionsMax
+        ≡ allOf okBy (a .partitions .at) && totalsAre (a .totals) (a .lce) es rows (a .partitions)
+    unfolding totalsAre
+    all-good = both-ways _ _
+        (λ t. let e = upto-each partitionsMax (omega arith) t in and-both (allOf okBy (a .partitions .at)) _
+          (allOf-All okBy (a .partitions .at) (getD-All (λ q. okBy q ≡ true) noPartition (a .partitions .at) (λ p l.
+            and-left (okBy (placeAt p)) (weighsBy p (placeAt p)) (e p (omega (arith, eight, l))))))
+          (allOf-All (λ p. weighsBy p (placeAt p)) partitionNumbers (getD-All (λ p. weighsBy p (placeAt p) ≡ true) 0
+            partitionNumbers (λ p l. subst (λ q. weighsBy q (placeAt q) ≡ true) (sym (own-area p l))
+              (and-right (okBy (placeAt p)) (weighsBy p (placeAt p)) (e p l))))))
+        (λ t. each-upto (λ p l. and-both (okBy (placeAt p)) (weighsBy p (placeAt p))
+          (All-getD (λ q. okBy q ≡ true) noPartition (a .partitions .at)
+            (All-allOf okBy (a .partitions .at) (and-left (allOf okBy (a .partitions .at)) _ t)) p (omega (arith, eight, l)))
+          (subst (λ q. weighsBy q (placeAt q) ≡ true) (own-area p l)
+            (All-getD (λ q. weighsBy q (placeAt q) ≡ true) 0 partitionNumbers (All-allOf (λ q. weighsBy q (placeAt q))
+              partitionNumbers (and-right (allOf okBy (a .partitions .at)) _ t)) p l))) partitionsMax (omega arith))
 
   never : (p : ℕ) → okUpTo false p ≡ false
   unfolding okUpTo judgedOf
   never zero = refl
   never (suc p) = rw (never p)
 
-  pub rest-found : (m : ℕ) → length at ≡ partitionsMax
-      → okUpTo (begins (length es) m (a .partitions)) partitionsMax ≡ restAsked es m a
+  pub rest-found : length (a .partitions .at) ≡ partitionsMax
+      → okUpTo (begins (length es) (length rows) (a .partitions)) partitionsMax ≡ restAsked es rows a
   unfolding restAsked lengthsAre
-  rest-found m eight = split (begins (length es) m (a .partitions))
-      (λ t. let l = and-left (lengthsAre (length es) m) (areasOk (a .partitions)) t in
-        let r = and-right (lengthsAre (length es) m) (areasOk (a .partitions)) t in
-        let len = eqb-true (length es) (entriesMax * areasMax) (and-right (eqb m (rowsMax * areasMax)) _ l) in
-        rw t (upto-is len eight (areas-facts (a .partitions) eight r .inside) partitionsMax (omega arith)
-          ∙ ap (allOf okBy) (take-all partitionsMax at (omega arith))))
+  rest-found eight = split (begins (length es) (length rows) (a .partitions))
+      (λ t. let l = and-left (lengthsAre (length es) (length rows)) (areasOk (a .partitions)) t in
+        let r = and-right (lengthsAre (length es) (length rows)) (areasOk (a .partitions)) t in
+        let lr = eqb-true (length rows) (rowsMax * areasMax) (and-left (eqb (length rows) (rowsMax * areasMax)) _ l) in
+        let le = eqb-true (length es) (entriesMax * areasMax) (and-right (eqb (length rows) (rowsMax * areasMax)) _ l) in
+        rw t (all-good le lr eight (areas-facts (a .partitions) eight r .inside)))
       (λ n. rw n (never partitionsMax))

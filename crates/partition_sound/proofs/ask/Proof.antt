@@ -12,8 +12,8 @@ returns : tie.Need-returns
 returns c = let o = c .before .before .before in let s = o .before in let e = o .epochs-of .ensures in
     let r = c .raise .ensures
       ∙ ap (raised (s .args .clock)) (epochs-listed (s .args .ts) (o .epochs-of .result) e) in
-    (λ k. record { clock = r k; epochs = ap (λ (es : Epochs). es .at) e k;
-      count = ap (λ (es : Epochs). es .count) e k; partitions = s .args .ps })
+    (λ k. record { clock = r k; lce = s .args .clock .lce; epochs = ap (λ (es : Epochs). es .at) e k;
+      count = ap (λ (es : Epochs). es .count) e k; partitions = s .args .ps; totals = s .args .totals })
 
 pub ask-spec : {M : Type 1} → statement M
 ask-spec =

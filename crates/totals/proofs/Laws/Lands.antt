@@ -92,8 +92,8 @@ module _ (es : List Entry) (rows : List ℕ) (q : Partition) (L : Lies es rows q
     moved : eqb (r .high) (r .over) ≡ false → after (total (r .over) ss) ≡ weightBy s ss
     unfolding landTo total
     moved f = let m = weightBy-most (upTo (r .over)) ss in let n = weightBy-most (inReach r) ss in
-        rw (f, lot-turned es rows q L (topTurn r) noTop,
-          lot-turned es rows q L (tallyTurn rows (landCut r q (foldl (topTurn r) noTop own))) noTally,
+        rw (f, lot-turned es q (L .placed) (topTurn r) noTop,
+          lot-turned es q (L .placed) (tallyTurn rows (landCut r q (foldl (topTurn r) noTop own))) noTally,
           lot-weighs es rows q L r, top-none r own (part (rowsMax * q .area) (q .rows) rows), swap taken (total (r .over) ss))
         (plus-small (cond taken 0 (total (r .over) ss)) (weightBy (inReach r) ss) (at-most taken (total (r .over) ss)
             (omega arith)) (omega arith)
@@ -141,8 +141,8 @@ module _ (st : Store) (ok : SoundOk st) (eight : length (st .state .totals) ≡ 
   pub lies : (p : ℕ) → p < partitionsMax → Lies (st .entries) (st .rows) (partitionAt p st)
   lies p k = let o = ok .shape in let e = partition-entries p st (o .partition p k) in
       let c = o .partition p k .entry-count in let f = o .partition p k .spans-ok .entries-fit in record {
-        entries-length = o .entries-length; rows-length = o .rows-length; inside = o .areas .inside p k;
-        few = omega arith; fits = e .rows-fit; ends = e .ends }
+        placed = record { entries-length = o .entries-length; inside = o .areas .inside p k; few = omega arith };
+        rows-length = o .rows-length; fits = e .rows-fit; ends = e .ends }
 
   abbrev LandsAt : ℕ → Type 0
   LandsAt p = AllLines (λ x. s (markOf x) ≡ leb (markOf x) lce || inReach reach (markOf x)) (linesOf (spansAt p st))

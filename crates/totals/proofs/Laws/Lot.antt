@@ -1,6 +1,6 @@
 -- One partition (01: lot) of a sound store among the lent entries and rows: the passes over its entries weigh what is
 -- shown of it. Definitions: specs/Places.antt, specs/Landing.antt.
--- In order: where it lies, a pass over its entries, what it weighs, what lands.
+-- In order: where it lies, a pass over its entries, what it weighs.
 -- Assumes nothing.
 use mathlib.Core.Path.{_≡_, refl, sym, ap, _∙_}
 use mathlib.Core.Bool.{Bool, true, false, not, _&&_, cond}
@@ -28,14 +28,40 @@ use Rattle.totals.specs.declared.Reach.{Reach}
 use Rattle.totals.specs.declared.Top.{Top}
 use Rattle.totals.proofs.Laws.Weighs.{weighs}
 
--- what is lent, and a partition that lies well in it
-pub record Lies (es : List Entry) (rows : List ℕ) (q : Partition) : Type 0 where
+-- a partition whose entries lie among those lent
+pub record Placed (es : List Entry) (q : Partition) : Type 0 where
   pub entries-length : length es ≡ entriesMax * areasMax
-  pub rows-length : length rows ≡ rowsMax * areasMax
   pub inside : q .area < areasMax
   pub few : q .entries ≤ entriesMax
+
+-- and that lies well in what is lent
+pub record Lies (es : List Entry) (rows : List ℕ) (q : Partition) : Type 0 where
+  pub placed : Placed es q
+  pub rows-length : length rows ≡ rowsMax * areasMax
   pub fits : q .rows ≤ rowsMax
   pub ends : endsOk (q .rows) 0 (part (entriesMax * q .area) (q .entries) es) ≡ true
+
+-- ---- a pass over its entries
+
+module _ (es : List Entry) (q : Partition) (P : Placed es q) where
+  in-place : inPlace q ≡ true
+  in-place = rw (lt-ltb (q .area) areasMax (P .inside)) (le-leb (q .entries) entriesMax (P .few))
+
+  from-is : fromOf q ≡ entriesMax * q .area
+  unfolding fromOf
+  from-is = rw in-place
+
+  to-is : toOf q ≡ entriesMax * q .area + q .entries
+  unfolding toOf
+  to-is = rw in-place
+
+  pub lot-turned : {X : Type 0} (f : X → Entry → X) (a : X)
+      → turned f a es (fromOf q) (toOf q - fromOf q) ≡ foldl f a (part (entriesMax * q .area) (q .entries) es)
+  lot-turned f a = let u = from-is in let v = to-is in let n : toOf q - fromOf q ≡ q .entries = omega arith in
+      let m = P .few in let i = P .inside in let l = P .entries-length in
+      rw n (turned-part f a es (fromOf q) (q .entries) (omega arith) ∙ ap (λ k. foldl f a (part k (q .entries) es)) u)
+
+-- ---- what it weighs
 
 module _ (es : List Entry) (rows : List ℕ) (q : Partition) (L : Lies es rows q) where
   abbrev own : List Entry
@@ -44,26 +70,9 @@ module _ (es : List Entry) (rows : List ℕ) (q : Partition) (L : Lies es rows q
   abbrev ss : List Span
   ss = spans 0 own (part (rowsMax * q .area) (q .rows) rows)
 
-  in-place : inPlace q ≡ true
-  in-place = rw (lt-ltb (q .area) areasMax (L .inside)) (le-leb (q .entries) entriesMax (L .few))
-
-  pub from-is : fromOf q ≡ entriesMax * q .area
-  unfolding fromOf
-  from-is = rw in-place
-
-  pub to-is : toOf q ≡ entriesMax * q .area + q .entries
-  unfolding toOf
-  to-is = rw in-place
-
-  pub lot-turned : {X : Type 0} (f : X → Entry → X) (a : X)
-      → turned f a es (fromOf q) (toOf q - fromOf q) ≡ foldl f a own
-  lot-turned f a = let u = from-is in let v = to-is in let n : toOf q - fromOf q ≡ q .entries = omega arith in
-      let m = L .few in let i = L .inside in let l = L .entries-length in
-      rw n (turned-part f a es (fromOf q) (q .entries) (omega arith) ∙ ap (λ k. foldl f a (part k (q .entries) es)) u)
-
   -- what is shown of the epochs in reach
   pub lot-weighs : (r : Reach) → let c = landCut r q (foldl (topTurn r) noTop own) in
       closedOf rows c (foldl (tallyTurn rows c) noTally own) ≡ weightBy (inReach r) ss
-  lot-weighs r = let i = L .inside in let f = L .fits in let l = L .rows-length in
+  lot-weighs r = let i = L .placed .inside in let f = L .fits in let l = L .rows-length in
       rw (lt-ltb (q .area) areasMax i)
       (weighs r own rows (rowsMax * q .area) (q .rows) f (omega arith) (L .ends))
