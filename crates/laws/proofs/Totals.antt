@@ -35,7 +35,7 @@ use Rattle.rules.specs.declared.ManagerCall.the-variants.{Begin, Commit, BeginR
 use Rattle.laws.proofs.Laws.Lines.{shows-ext}
 use Rattle.laws.proofs.Laws.Manager.{manager-facts}
 use Rattle.laws.proofs.Laws.PartitionFollows.{follows-shown}
-use Rattle.laws.proofs.Laws.Totals.{SoundOk, sound-facts, total-kept, totals-each}
+use Rattle.laws.proofs.Laws.Totals.{SoundOk, sound-facts, total-kept, total-still}
 use Rattle.laws.proofs.Laws.Tracks.{alive, marksOf-first, tracks-latest}
 use Rattle.laws.proofs.Laws.TracksReadOnly.{snapshot-marks}
 use Rattle.laws.proofs.Laws.Follows.{Follows}
@@ -82,20 +82,11 @@ pub totals-fresh : TotalsFresh
 totals-fresh c st n h p l = total-kept (step c st .store) (sound-step c st (sound-facts st n h)) p l
 
 module _ (st : Store) (ok : SoundOk st) (p : ℕ) (l : p < partitionsMax) where
-  -- a manager with the same LCE
-  at-lce : (m : Manager) → m .clock .lce ≡ managerOf st .clock .lce → totalAt p (withManager m st) ≡ totalAt p st
-  unfolding totalAt spansAt
-  at-lce m e = ap (λ (n : ℕ). total n (spansAt p st)) e
-
-  same-lce : (m : Manager) → m .clock .lce ≡ managerOf st .clock .lce
-      → getD (totalsOf (withManager m st)) p 0 ≡ keptTotal p st
-  same-lce m e = totals-each (withManager m st) p l ∙ (at-lce m e ∙ sym (total-kept st ok p l))
-
   managed : (c : ManagerCall) → managerAfter c (managerOf st) .clock .lce ≡ managerOf st .clock .lce
       → keptTotal p (step (manage c) st .store) ≡ keptTotal p st
   unfolding step
   managed c e = split (accepted (managerAnswer c (sound st) (managerOf st)))
-    (λ t. rw t (same-lce (managerAfter c (managerOf st)) e)) (λ f. rw f)
+    (λ t. rw t (total-still st ok (managerAfter c (managerOf st)) e p l)) (λ f. rw f)
 
   stays : (c : Call) → leavesTotals c ≡ true → keptTotal p (step c st .store) ≡ keptTotal p st
   unfolding step laidInPlace laidInSpare laid purgedStore begunManager begunRoManager endedRoManager advancedManager

@@ -4,7 +4,7 @@
 -- and all lines.
 -- Assumes nothing.
 use mathlib.Core.Path.{_≡_, refl, _∙_}
-use mathlib.Core.Bool.{true, not, cond}
+use mathlib.Core.Bool.{Bool, true, false, not, cond}
 use Prim.Native.Nat.{suc}
 use lib.Dec.{leb, eqb}
 use borrow.Author.Tests.{not-true}
@@ -61,6 +61,16 @@ manager-not-5 (AdvanceLse n) m =
     (past Blocked (blocked (targetOf n m) m) _ refl (ends _ refl))
 
 -- ---- sound
+
+-- only on a sound store is one accepted
+pub manager-passed : (c : ManagerCall) (b : Bool) (m : Manager) → accepted (managerAnswer c b m) ≡ true → b ≡ true
+unfolding endRoAnswer
+manager-passed Begin b m t = begin-passed b m t .sound
+manager-passed (Commit i) b m t = close-passed i b m (committedManager i m) t .sound
+manager-passed (BeginRo e) b m t = begin-ro-passed e b m t .sound
+manager-passed (EndRo n) true m t = refl
+manager-passed (EndRo n) false m t = t
+manager-passed (AdvanceLse n) b m t = advance-passed n b m t .sound
 
 pub manager-sound : (c : ManagerCall) (st : Store) → StoreOk st
     → accepted (managerAnswer c (sound st) (managerOf st)) ≡ true

@@ -2,12 +2,13 @@
 -- Definitions: rules/specs/WellFormed.antt `totalsOk`, `sound`, rules/specs/Store.antt `refreshed`.
 -- In order: the parts; totals brought up to date; what leaves them as they were; making new; append, clear, purge.
 -- Assumes nothing.
-use mathlib.Core.Path.{_≡_, refl, subst, _∙_}
+use mathlib.Core.Path.{_≡_, refl, sym, ap, subst, _∙_}
 use mathlib.Core.Bool.{Bool, true, _&&_, cond}
 use mathlib.Core.List.{List, [], _∷_, _++_, map}
 use Prim.Native.Nat.{ℕ, zero, suc, _<_}
 use native.Mathlib.Omega.{arith}
 use lib.ListN.{length, getD}
+use lib.Seq.{ext-getD}
 use lib.Dec.{eqb}
 use borrow.Author.Tests.{eqb-true, eq-eqb}
 use Rattle.lists.proofs.Laws.All.{All-allOf, All-getD}
@@ -19,8 +20,8 @@ use Rattle.rules.specs.Hides.{shown, shownIn}
 use Rattle.rules.specs.Manager.{Manager, hasOpen}
 use Rattle.rules.specs.Rewrite.{purged, skips}
 use Rattle.rules.specs.Ledger.{Line}
-use Rattle.rules.specs.Store.{Store, managerOf, spansAt, totalAt, totalsOf, refreshed, createdStore, purgedStore}
-use Rattle.rules.specs.Store.{laid, laidInSpare, partitionNumbers}
+use Rattle.rules.specs.Store.{Store, managerOf, spansAt, withManager, totalAt, totalsOf, refreshed, createdStore}
+use Rattle.rules.specs.Store.{purgedStore, laid, laidInSpare, partitionNumbers}
 use Rattle.rules.specs.WellFormed.{wellFormed, totalsOk, sound}
 use Rattle.laws.proofs.Laws.WellFormed.{StoreOk, store-facts, store-ok}
 use Rattle.laws.proofs.Laws.Laid.{Changed}
@@ -73,6 +74,30 @@ numbered f (suc (suc (suc (suc (suc (suc (suc (suc n)))))))) h = absurd (omega a
 pub totals-each : (st : Store) (p : ℕ) → p < partitionsMax → getD (totalsOf st) p 0 ≡ totalAt p st
 unfolding totalsOf
 totals-each st p h = numbered (λ q. totalAt q st) p h
+
+totals-length : (st : Store) → length (totalsOf st) ≡ partitionsMax
+unfolding totalsOf
+totals-length st = refl
+
+pub totals-by : (st : Store) (f : ℕ → ℕ) → ((p : ℕ) → p < partitionsMax → totalAt p st ≡ f p)
+    → totalsOf st ≡ map f partitionNumbers
+unfolding totalsOf
+totals-by st f h = ext-getD 0 _ _ refl (λ p l. numbered (λ q. totalAt q st) p l ∙ (h p l ∙ sym (numbered f p l)))
+
+-- under a manager with the same LCE they are those that are kept
+at-lce : (st : Store) (m : Manager) → m .clock .lce ≡ managerOf st .clock .lce → (p : ℕ)
+    → totalAt p (withManager m st) ≡ totalAt p st
+unfolding totalAt spansAt
+at-lce st m e p = ap (λ (n : ℕ). total n (spansAt p st)) e
+
+pub total-still : (st : Store) → SoundOk st → (m : Manager) → m .clock .lce ≡ managerOf st .clock .lce → (p : ℕ)
+    → p < partitionsMax → getD (totalsOf (withManager m st)) p 0 ≡ getD (st .state .totals) p 0
+total-still st ok m e p l = totals-each (withManager m st) p l ∙ (at-lce st m e p ∙ sym (total-kept st ok p l))
+
+pub totals-still : (st : Store) → SoundOk st → length (st .state .totals) ≡ partitionsMax → (m : Manager)
+    → m .clock .lce ≡ managerOf st .clock .lce → totalsOf (withManager m st) ≡ st .state .totals
+totals-still st ok n m e = ext-getD 0 _ _ (totals-length (withManager m st) ∙ sym n)
+    (λ p l. total-still st ok m e p (subst (λ k. p < k) (totals-length (withManager m st)) l))
 
 -- ---- brought up to date
 

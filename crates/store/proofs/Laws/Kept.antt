@@ -1,55 +1,99 @@
 -- What the calls by value keep is what step leaves. Definitions: specs/Kept.antt.
 -- Assumes nothing.
-use mathlib.Core.Path.{_≡_, refl}
+use mathlib.Core.Path.{_≡_, refl, sym}
 use mathlib.Core.Bool.{Bool, true, false, _&&_, cond}
 use mathlib.Core.List.{List}
-use Prim.Native.Nat.{ℕ}
+use Prim.Native.Nat.{ℕ, _≤_}
+use native.Mathlib.Omega.{arith}
 use lib.ListN.{length}
 use Rattle.lists.proofs.Laws.Bools.{split}
 use Rattle.lists.proofs.Laws.Tests.{and-comm}
 use Rattle.rules.specs.Answers.{accepted}
-use Rattle.rules.specs.WellFormed.{wellFormed, lengthsOk, managerOk}
+use Rattle.rules.specs.WellFormed.{sound, totalsOk, lengthsOk, managerOk}
 use Rattle.rules.specs.Calls.{createAnswer, managerAnswer, managerAfter}
 use Rattle.rules.specs.Step.{step, create, manage}
-use Rattle.rules.specs.Store.{withManager, createdStore}
+use Rattle.rules.specs.Store.{Store, spansAt, totalAt, totalsOf, stateOf, createdStore}
+use Rattle.rules.specs.Limits.{partitionsMax}
+use Rattle.rules.specs.Begin.{begunManager}
+use Rattle.rules.specs.Close.{committedTxns, settled, committedManager}
+use Rattle.rules.specs.ReadOnly.{begunRoManager, endedRoManager}
+use Rattle.rules.specs.Safe.{advancedManager}
 use Rattle.rules.specs.declared.Answer.{Answer}
 use Rattle.rules.specs.declared.ManagerCall.{ManagerCall}
+use Rattle.rules.specs.declared.ManagerCall.the-variants.{Begin, Commit, BeginRo, EndRo, AdvanceLse}
 use Rattle.rules.specs.declared.Entry.{Entry}
-use Rattle.rules.specs.Manager.{Manager, managerIn}
+use Rattle.rules.specs.Manager.{Manager, managerIn, writersOf}
 use Rattle.rules.specs.declared.State.{State}
 use Rattle.partition_sound.specs.Sound.{partitionsOk}
-use Rattle.partition_sound.specs.Asked.{askedOf, lengthsAre, restOk, restAsked}
+use Rattle.partition_sound.specs.Asked.{askedOf, lengthsAre, spansOf, totalsAre, restOk, restAsked}
 use Rattle.partition_sound.proofs.Laws.Asked.{rest-asked}
 use Rattle.partition_sound.proofs.Laws.Sound.{wellFormed-is}
 use Rattle.txn.specs.Kept.{keptOf}
-use Rattle.store.specs.Kept.{storeOf, Left, createKept, managerKept}
+use Rattle.laws.proofs.Laws.Close.{settled-rises}
+use Rattle.laws.proofs.Laws.ManagerCalls.{manager-passed}
+use Rattle.laws.proofs.Laws.Totals.{sound-facts, totals-still}
+use Rattle.totals.proofs.Laws.Lands.{lands-commit}
+use Rattle.store.specs.Kept.{storeOf, Left, createKept, managerKept, totalsKept}
 
 -- whether the lots are sound, as a call asks it of the books
 abbrev pub restIn : State → List Entry → List ℕ → Bool
-restIn s es rs = restAsked es (length rs) (askedOf (s .clock) (s .writers) (s .partitions))
+restIn s es rs = restAsked es rs (askedOf (s .clock) (s .writers) (s .partitions) (s .totals))
 
--- with the manager's own test it is rules' wellFormed
+-- with the manager's own test it is rules' sound
 pub sound-is : (s : State) (es : List Entry) (rs : List ℕ)
-    → restIn s es rs && managerOk (managerIn s) ≡ wellFormed (storeOf s rs es)
-unfolding restOk lengthsAre lengthsOk
-sound-is s es rs = rw (rest-asked s es (length rs), wellFormed-is (storeOf s rs es))
+    → restIn s es rs && managerOk (managerIn s) ≡ sound (storeOf s rs es)
+unfolding restOk lengthsAre lengthsOk sound totalsOk totalsAre totalAt spansAt spansOf
+sound-is s es rs = rw (rest-asked s es rs, wellFormed-is (storeOf s rs es))
     (exchange (lengthsAre (length es) (length rs)) (partitionsOk (managerIn s) es (s .partitions))
-      (managerOk (managerIn s))) where
-    exchange : (a b c : Bool) → (a && b) && c ≡ (a && c) && b
-    exchange true b c = and-comm b c
-    exchange false b c = refl
+      (totalsOk (storeOf s rs es)) (managerOk (managerIn s))) where
+    exchange : (a b t c : Bool) → ((a && b) && t) && c ≡ ((a && c) && b) && t
+    exchange false b t c = refl
+    exchange true true true true = refl
+    exchange true true true false = refl
+    exchange true true false true = refl
+    exchange true true false false = refl
+    exchange true false t true = refl
+    exchange true false t false = refl
 
--- a call on the manager
-pub kept-left : (a : Answer) (next : Manager) (s : State) (es : List Entry) (rs : List ℕ)
-    → storeOf (keptOf a next s .state) rs es ≡ cond (accepted a) (withManager next (storeOf s rs es)) (storeOf s rs es)
-kept-left a next s es rs = split (accepted a) (λ t. rw t) (λ f. rw f)
+-- ---- a call on the manager
 
-pub manage-left : (s : State) (es : List Entry) (rs : List ℕ) (c : ManagerCall)
-    → Left (step (manage c) (storeOf s rs es)) (managerKept s (restIn s es rs) c) rs es
-unfolding step
-manage-left s es rs c = rw (sound-is s es rs)
-    (refl, kept-left (managerAnswer c (wellFormed (storeOf s rs es)) (managerIn s)) (managerAfter c (managerIn s)) s es
-      rs)
+-- the books have eight partitions and eight totals
+module _ (s : State) (n : length (s .partitions .at) ≡ partitionsMax) (n′ : length (s .totals) ≡ partitionsMax)
+    (es : List Entry) (rs : List ℕ) where
+  abbrev st : Store
+  st = storeOf s rs es
+
+  abbrev m : Manager
+  m = managerIn s
+
+  -- LCE stays where it was, and the totals with it
+  pub manage-left : (c : ManagerCall) → managerAfter c m .clock .lce ≡ m .clock .lce
+      → Left (step (manage c) st) (managerKept s (restIn s es rs) c) rs es
+  unfolding step
+  manage-left c e = rw (sound-is s es rs) (split (accepted (managerAnswer c (sound st) m))
+      (λ t. let ok = sound-facts st n (manager-passed c (sound st) m t) in
+        rw t (refl, λ j. storeOf (stateOf (managerAfter c m) (s .partitions) (sym (totals-still st ok n′ (managerAfter c m) e)
+          j)) rs es))
+      (λ f. rw f (refl, refl)))
+
+  -- LCE may rise: what lands is weighed
+  pub manage-lands : (c : ManagerCall) → m .clock .lce ≤ managerAfter c m .clock .lce
+      → Left (step (manage c) st) (totalsKept s es rs 0 (managerKept s (restIn s es rs) c)) rs es
+  unfolding step totalsOf totalAt spansAt
+  manage-lands c up = rw (sound-is s es rs) (split (accepted (managerAnswer c (sound st) m))
+      (λ t. let ok = sound-facts st n (manager-passed c (sound st) m t) in
+        rw t (refl, λ j. storeOf (stateOf (managerAfter c m) (s .partitions) (lands-commit st ok n′ (managerAfter c m .clock
+          .lce) up j)) rs es))
+      (λ f. rw f (refl, refl)))
+
+-- no call on the manager lowers LCE
+pub lce-rises : (c : ManagerCall) (m : Manager) → m .clock .lce ≤ managerAfter c m .clock .lce
+unfolding begunManager begunRoManager endedRoManager advancedManager committedManager settled
+lce-rises Begin m = omega arith
+lce-rises (Commit i) m = settled-rises (m .clock .lce) (committedTxns i (writersOf m))
+lce-rises (BeginRo e) m = omega arith
+lce-rises (EndRo t) m = omega arith
+lce-rises (AdvanceLse t) m = omega arith
 
 pub create-left : (s : State) (es : List Entry) (rs : List ℕ) (a : ℕ)
     → Left (step (create a) (storeOf s rs es)) (createKept s (length es) (length rs) a) rs es

@@ -19,7 +19,7 @@ use Rattle.rules.specs.Span.{Span, spans, entriesOf, wordsOf}
 use Rattle.rules.specs.Rewrite.{purgedIn, purged, skips}
 use Rattle.rules.specs.Store.{withPartitionsIn, Store, entriesAt, rowsAt, spansAt, laid, laidInSpare, purgedStore}
 use Rattle.rules.specs.Answers.{accepted}
-use Rattle.rules.specs.WellFormed.{endsOk, wellFormed}
+use Rattle.rules.specs.WellFormed.{endsOk, sound}
 use Rattle.rules.specs.Calls.{purgeAnswer}
 use Rattle.rules.specs.Step.{Outcome, purgeOutcome, step, purge}
 use Rattle.rules.specs.declared.Answer.{Answer}
@@ -29,7 +29,8 @@ use Rattle.rules.specs.declared.Entry.{Entry}
 use Rattle.rules.specs.declared.State.{State}
 use Rattle.laws.proofs.Laws.Rewrite.{length-joined, length-purgedIn}
 use Rattle.laws.proofs.Laws.Span.{length-entriesOf}
-use Rattle.laws.proofs.Laws.WellFormed.{StoreOk, store-facts}
+use Rattle.laws.proofs.Laws.WellFormed.{StoreOk}
+use Rattle.laws.proofs.Laws.Totals.{sound-facts}
 use Rattle.lent.specs.Shapes.{saved}
 use Rattle.lent.proofs.Saved.{saved-none, saved-over}
 use Rattle.rewrite_plan.specs.Plan.{spansIn}
@@ -182,8 +183,8 @@ pub purge-left : (s : State) → length (s .partitions .at) ≡ partitionsMax �
 unfolding step purgeAnswer purgedStore purgePlan
 purge-left s n es rs p =
     let st = storeOf s rs es in let l = s .clock .lse in let next = purgedStore p st in
-    rw (sound-is s es rs) (split (wellFormed st)
-  (λ t. let ok = store-facts st n t in rw (t, loaded-area es (ok .entries-length) (s .partitions) p)
+    rw (sound-is s es rs) (split (sound st)
+  (λ t. let ok = sound-facts st n t .shape in rw (t, loaded-area es (ok .entries-length) (s .partitions) p)
     (split (leb partitionsMax p)
     (λ u. rw u (unwritten-left s es rs p (Refused UnknownPartition) next refl))
     (λ u. let h = leb-false partitionsMax p u in split (skips l (spansAt p st))

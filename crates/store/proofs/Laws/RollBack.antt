@@ -1,28 +1,36 @@
--- What a roll back leaves is what step leaves. Definitions: specs/Kept.antt `rollBackKept`, specs/Done.antt.
--- In order: the areas and partitions after it; the call.
+-- What a roll back leaves is what step leaves. Definitions: specs/Kept.antt `rollBackKept`, `totalsKept`, specs/Done.antt.
+-- In order: the areas and partitions after it; the totals; the call.
 -- Assumes nothing.
-use mathlib.Core.Path.{_≡_, refl, _∙_}
-use mathlib.Core.Bool.{Bool}
+use mathlib.Core.Path.{_≡_, refl, sym, ap, _∙_}
+use mathlib.Core.Bool.{Bool, true}
 use mathlib.Core.List.{List}
-use Prim.Native.Nat.{ℕ}
+use Prim.Native.Nat.{ℕ, _≤_, _<_}
 use lib.ListN.{length}
 use Rattle.lists.proofs.Laws.Bools.{split}
-use Rattle.rules.specs.Store.{stateOf, withPartitionsIn}
-use Rattle.rules.specs.Manager.{managerIn}
+use Rattle.rules.specs.Store.{Store, spansAt, totalAt, totalsOf, stateOf, withPartitionsIn, withManager, rolledBackBelow}
+use Rattle.rules.specs.Manager.{Manager, managerIn, writersOf, hasOpen}
 use Rattle.rules.specs.Limits.{partitionsMax}
-use Rattle.rules.specs.Close.{rolledBackManager}
+use Rattle.rules.specs.Close.{droppedTxns, settled, rolledBackManager}
+use Rattle.rules.specs.Rewrite.{rolledBack}
+use Rattle.rules.specs.Weight.{total}
 use Rattle.rules.specs.Answers.{accepted}
-use Rattle.rules.specs.WellFormed.{wellFormed}
+use Rattle.rules.specs.WellFormed.{sound}
 use Rattle.rules.specs.Calls.{closeAnswer}
 use Rattle.rules.specs.Step.{step, rollback}
 use Rattle.rules.specs.declared.Entry.{Entry}
+use Rattle.rules.specs.declared.Kept.{Kept}
 use Rattle.rules.specs.declared.Partitions.{Partitions}
 use Rattle.rules.specs.declared.State.{State}
 use Rattle.laws.proofs.Laws.Calls.{close-passed}
-use Rattle.laws.proofs.Laws.WellFormed.{store-facts}
+use Rattle.laws.proofs.Laws.Close.{settled-rises}
+use Rattle.laws.proofs.Laws.Epochs.{hasOpen-range}
+use Rattle.laws.proofs.Laws.Store.{spans-with-manager, rollback-spans}
+use Rattle.laws.proofs.Laws.Totals.{SoundOk, sound-facts, totals-by}
+use Rattle.totals.specs.Landing.{landedAll}
+use Rattle.totals.proofs.Laws.Lands.{lands-rollback}
 use Rattle.undo.specs.Lots.{rollingOf, rolledLots}
 use Rattle.undo.proofs.Laws.Lots.{lots-rolled, lots-left}
-use Rattle.store.specs.Kept.{storeOf, Left, rollBackKept}
+use Rattle.store.specs.Kept.{storeOf, Left, rollBackKept, totalsKept}
 use Rattle.store.specs.Done.{doneRollBack}
 use Rattle.store.proofs.Laws.Kept.{restIn, sound-is}
 
@@ -30,19 +38,52 @@ use Rattle.store.proofs.Laws.Kept.{restIn, sound-is}
 abbrev pub Rolls : List Entry → List ℕ → Partitions → ℕ → Bool → Partitions → List Entry → List ℕ → Type 0
 Rolls es rs ps i go ps′ es′ rs′ = rollingOf es′ rs′ ps′ ≡ rolledLots go i (rollingOf es rs ps)
 
-module _ (s : State) (n : length (s .partitions .at) ≡ partitionsMax) (es : List Entry) (rs : List ℕ) (i : ℕ)
-    (ps′ : Partitions) (es′ : List Entry) (rs′ : List ℕ) where
-  pub roll-back-left : Rolls es rs (s .partitions) i (accepted (rollBackKept s (restIn s es rs) i .answer)) ps′ es′
-      rs′
-      → Left (step (rollback i) (storeOf s rs es)) (doneRollBack (rollBackKept s (restIn s es rs) i) ps′) rs′ es′
-  unfolding step
-  roll-back-left rel =
-      let st = storeOf s rs es in let next = rolledBackManager i (managerIn s) in
-      let a = closeAnswer i (wellFormed st) (managerIn s) next in
-      let r = rw (sound-is s es rs) at rel in
-      rw (sound-is s es rs) (split (accepted a)
-      (λ t. let ok = store-facts st n (close-passed i (wellFormed st) (managerIn s) next t .sound) in
-        let e = (rw t at r) ∙ lots-rolled i st ok in
-        rw t (refl, λ j. storeOf (stateOf next (e j .places)) (e j .rows) (e j .entries)))
-      (λ f. let e = (rw f at r) ∙ lots-left i (rollingOf es rs (s .partitions)) in
-        rw f (refl, λ j. storeOf (withPartitionsIn (e j .places) s) (e j .rows) (e j .entries))))
+module _ (s : State) (n : length (s .partitions .at) ≡ partitionsMax) (n′ : length (s .totals) ≡ partitionsMax)
+    (es : List Entry) (rs : List ℕ) (i : ℕ) where
+  abbrev st : Store
+  st = storeOf s rs es
+
+  abbrev m : Manager
+  m = managerIn s
+
+  abbrev next : Manager
+  next = rolledBackManager i m
+
+  -- the manager's part, with the totals of what lands
+  abbrev pub rollsBack : Kept
+  rollsBack = totalsKept s es rs i (rollBackKept s (restIn s es rs) i)
+
+  rises : m .clock .lce ≤ next .clock .lce
+  unfolding rolledBackManager settled
+  rises = settled-rises (m .clock .lce) (droppedTxns i (writersOf m))
+
+  at-left : SoundOk st → (p : ℕ) → p < partitionsMax
+      → totalAt p (withManager next (rolledBackBelow i partitionsMax st))
+        ≡ total (next .clock .lce) (rolledBack i (spansAt p st))
+  unfolding totalAt
+  at-left ok p l = ap (total (next .clock .lce)) (spans-with-manager next p (rolledBackBelow i partitionsMax st)
+      ∙ rollback-spans i st (ok .shape) p l)
+
+  -- they are those worked out afresh of the partitions that are left
+  fresh : SoundOk st → hasOpen i m ≡ true
+      → landedAll es rs (record { partitions = s .partitions; totals = s .totals; reach = record {
+          over = m .clock .lce; high = next .clock .lce; gone = i } })
+        ≡ totalsOf (withManager next (rolledBackBelow i partitionsMax st))
+  fresh ok o = lands-rollback st ok n′ (next .clock .lce) rises i (hasOpen-range m (ok .shape .manager) i o .0)
+      ∙ sym (totals-by (withManager next (rolledBackBelow i partitionsMax st))
+        (λ p. total (next .clock .lce) (rolledBack i (spansAt p st))) (at-left ok))
+
+
+  module _ (ps′ : Partitions) (es′ : List Entry) (rs′ : List ℕ) where
+    pub roll-back-left : Rolls es rs (s .partitions) i (accepted (rollsBack .answer)) ps′ es′ rs′
+        → Left (step (rollback i) st) (doneRollBack rollsBack ps′) rs′ es′
+    unfolding step
+    roll-back-left rel =
+        let a = closeAnswer i (sound st) m next in
+        let r = rw (sound-is s es rs) at rel in
+        rw (sound-is s es rs) (split (accepted a)
+        (λ t. let k = close-passed i (sound st) m next t in let ok = sound-facts st n (k .sound) in
+          let e = (rw t at r) ∙ lots-rolled i st (ok .shape) in let f = fresh ok (k .pending) in
+          rw t (refl, λ j. storeOf (stateOf next (e j .places) (f j)) (e j .rows) (e j .entries)))
+        (λ f. let e = (rw f at r) ∙ lots-left i (rollingOf es rs (s .partitions)) in
+          rw f (refl, λ j. storeOf (withPartitionsIn (e j .places) s) (e j .rows) (e j .entries))))

@@ -15,7 +15,7 @@ use Rattle.lists.proofs.Laws.Bools.{split}
 use Rattle.rules.specs.Limits.{partitionsMax, areasMax, rowsMax, entriesMax}
 use Rattle.rules.specs.Bitmap.{bytesFor, packed, bitmapAfter}
 use Rattle.rules.specs.Store.{Store, entriesAt, rowsAt, spansAt}
-use Rattle.rules.specs.WellFormed.{wellFormed}
+use Rattle.rules.specs.WellFormed.{sound}
 use Rattle.rules.specs.Calls.{refuse, isReader, seesOf, appliesOf, flagsAt, scanAnswer}
 use Rattle.rules.specs.Step.{Outcome, scanOutcome, step, scan}
 use Rattle.rules.specs.declared.Answer.the-variants.{Scanned, Refused}
@@ -30,7 +30,8 @@ use Rattle.laws.proofs.Laws.Answers.{refused}
 use Rattle.laws.proofs.Laws.Hides.{length-flags}
 use Rattle.laws.proofs.Laws.Sees.{applies-all}
 use Rattle.laws.proofs.Laws.SpansTest.{EntriesOk, entries-ok}
-use Rattle.laws.proofs.Laws.WellFormed.{StoreOk, store-facts}
+use Rattle.laws.proofs.Laws.WellFormed.{StoreOk}
+use Rattle.laws.proofs.Laws.Totals.{sound-facts}
 use Rattle.visible.specs.declared.View.{View}
 use Rattle.visible.specs.View.{seesView}
 use Rattle.visible.specs.Scan.{scanOk, scanned, bitmapScanned}
@@ -136,8 +137,8 @@ look-left : (s : State) → length (s .partitions .at) ≡ partitionsMax → (es
       (lookBy (isReader r (managerIn s)) v deps s (restIn s es rs) (loadedArea es (s .partitions) p) (length lent) p)
 unfolding step scanAnswer
 look-left s n es rs lent p r v deps sees = let st = storeOf s rs es in let flags = flagsAt r p st in
-    rw (sound-is s es rs) (split (wellFormed st)
-  (λ t. let ok = store-facts st n t in rw (t, loaded-area es (ok .entries-length) (s .partitions) p)
+    rw (sound-is s es rs) (split (sound st)
+  (λ t. let ok = sound-facts st n t .shape in rw (t, loaded-area es (ok .entries-length) (s .partitions) p)
     (split (leb partitionsMax p)
     (λ u. rw u (refused-left UnknownPartition s es rs lent flags))
     (λ u. split (isReader r (managerIn s))

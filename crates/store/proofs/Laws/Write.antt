@@ -19,7 +19,7 @@ use Rattle.rules.specs.Manager.{hasOpen, managerIn}
 use Rattle.rules.specs.Span.{wordsOf}
 use Rattle.rules.specs.Append.{appended, cleared}
 use Rattle.rules.specs.Store.{withPartitionsIn, Store, noPartition, withPartitionsIn, spansAt, laidInPlace}
-use Rattle.rules.specs.WellFormed.{wellFormed}
+use Rattle.rules.specs.WellFormed.{sound}
 use Rattle.rules.specs.Calls.{refuse, appendAnswer, clearAnswer}
 use Rattle.rules.specs.Step.{Outcome, outcome, step, append, clear}
 use Rattle.rules.specs.declared.Answer.{Answer}
@@ -33,7 +33,8 @@ use Rattle.rules.specs.declared.State.{State}
 use Rattle.rules.proofs.State as state-type
 use Rattle.laws.proofs.Laws.Append.{words-appended, length-cleared}
 use Rattle.laws.proofs.Laws.Answers.{refused}
-use Rattle.laws.proofs.Laws.WellFormed.{StoreOk, store-facts}
+use Rattle.laws.proofs.Laws.WellFormed.{StoreOk}
+use Rattle.laws.proofs.Laws.Totals.{sound-facts}
 use Rattle.lent.specs.Entries.{none, movedEnd}
 use Rattle.partition.specs.Rows.{putRows}
 use Rattle.partition.specs.Areas.{withPartition}
@@ -56,6 +57,10 @@ use Rattle.store.proofs.Laws.Kept.{restIn, sound-is}
 
 pub state-8 : (s : State) (vs : List Val) → Is (row state-type.the-type) s vs → length (s .partitions .at) ≡ 8
 state-8 s vs g = partitions-8 (s .partitions) _ (g .1 .1 .1 .1 .1 .1 .0)
+
+-- eight totals
+pub totals-8 : (s : State) (vs : List Val) → Is (row state-type.the-type) s vs → length (s .totals) ≡ 8
+totals-8 s vs g = g .1 .1 .1 .1 .1 .1 .1 .0 .1 .0 .1
 
 -- ---- a write carried out, with the batch bs
 
@@ -162,8 +167,8 @@ pub append-left : (s : State) → length (s .partitions .at) ≡ partitionsMax �
       (appendWrite s (restIn s es rs) (lastEntry es (s .partitions) p) (length es) (length rs) (length bs) i p)
 unfolding step appendAnswer appendWrite
 append-left s n es rs bs i p = let st = storeOf s rs es in
-    let next = laidInPlace p (appended i bs (spansAt p st)) st in rw (sound-is s es rs) (split (wellFormed st)
-  (λ t. let ok = store-facts st n t in rw t (split (leb partitionsMax p)
+    let next = laidInPlace p (appended i bs (spansAt p st)) st in rw (sound-is s es rs) (split (sound st)
+  (λ t. let ok = sound-facts st n t .shape in rw t (split (leb partitionsMax p)
     (λ u. rw u (refused-left s n UnknownPartition es rs bs next))
     (λ u. let h = leb-false partitionsMax p u in split (hasOpen i (managerIn s))
       (λ o. rw (u, o, last-same s n es rs ok p h i (length bs)) (append-room s n es rs ok p h i bs))
@@ -206,8 +211,8 @@ clear-carried : (s : State) → length (s .partitions .at) ≡ partitionsMax →
       (clearWrite s (restIn s es rs) (length es) (length rs) i p)
 unfolding step clearAnswer clearWrite
 clear-carried s n es rs i p = let st = storeOf s rs es in
-    let next = laidInPlace p (cleared i (spansAt p st)) st in rw (sound-is s es rs) (split (wellFormed st)
-  (λ t. let ok = store-facts st n t in rw t (split (leb partitionsMax p)
+    let next = laidInPlace p (cleared i (spansAt p st)) st in rw (sound-is s es rs) (split (sound st)
+  (λ t. let ok = sound-facts st n t .shape in rw t (split (leb partitionsMax p)
     (λ u. rw u (refused-left s n UnknownPartition es rs [] next))
     (λ u. split (hasOpen i (managerIn s))
       (λ o. rw (u, o) (clear-room s n es rs ok p (leb-false partitionsMax p u) i))
