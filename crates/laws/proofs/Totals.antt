@@ -16,10 +16,6 @@ use Rattle.lists.proofs.Laws.Tests.{no-proof}
 use Rattle.rules.specs.Limits.{partitionsMax}
 use Rattle.rules.specs.Sees.{upTo}
 use Rattle.rules.specs.Weight.{weight, total}
-use Rattle.rules.specs.Begin.{begunManager}
-use Rattle.rules.specs.ReadOnly.{begunRoManager, endedRoManager}
-use Rattle.rules.specs.Safe.{advancedManager}
-use Rattle.rules.specs.Manager.{Manager}
 use Rattle.rules.specs.Store.{Store, managerOf, spansAt, withManager, totalAt, totalsOf, laid, laidInPlace, laidInSpare}
 use Rattle.rules.specs.Store.{purgedStore}
 use Rattle.rules.specs.Answers.{accepted}
@@ -31,9 +27,9 @@ use Rattle.rules.specs.Ledger.{Ledger, latest, linesAt, marksOf, showsBy, withO
 use Rattle.rules.specs.Histories.{Made}
 use Rattle.rules.specs.Totals.{keptTotal, shownNow, HistoryTotals, TotalsFresh, leavesTotals, TotalsStay}
 use Rattle.rules.specs.declared.ManagerCall.{ManagerCall}
-use Rattle.rules.specs.declared.ManagerCall.the-variants.{Begin, Commit, BeginRo, EndRo, AdvanceLse}
 use Rattle.laws.proofs.Laws.Lines.{shows-ext}
 use Rattle.laws.proofs.Laws.Manager.{manager-facts}
+use Rattle.laws.proofs.Laws.ManagerCalls.{lce-stays}
 use Rattle.laws.proofs.Laws.PartitionFollows.{follows-shown}
 use Rattle.laws.proofs.Laws.Totals.{SoundOk, sound-facts, total-kept, total-still}
 use Rattle.laws.proofs.Laws.Tracks.{alive, marksOf-first, tracks-latest}
@@ -82,20 +78,16 @@ pub totals-fresh : TotalsFresh
 totals-fresh c st n h p l = total-kept (step c st .store) (sound-step c st (sound-facts st n h)) p l
 
 module _ (st : Store) (ok : SoundOk st) (p : ℕ) (l : p < partitionsMax) where
-  managed : (c : ManagerCall) → managerAfter c (managerOf st) .clock .lce ≡ managerOf st .clock .lce
+  managed : (c : ManagerCall) → leavesTotals (manage c) ≡ true
       → keptTotal p (step (manage c) st .store) ≡ keptTotal p st
   unfolding step
-  managed c e = split (accepted (managerAnswer c (sound st) (managerOf st)))
-    (λ t. rw t (total-still st ok (managerAfter c (managerOf st)) e p l)) (λ f. rw f)
+  managed c h = split (accepted (managerAnswer c (sound st) (managerOf st)))
+    (λ t. rw t (total-still st ok (managerAfter c (managerOf st)) (lce-stays c (managerOf st) h) p l)) (λ f. rw f)
 
   stays : (c : Call) → leavesTotals c ≡ true → keptTotal p (step c st .store) ≡ keptTotal p st
-  unfolding step laidInPlace laidInSpare laid purgedStore begunManager begunRoManager endedRoManager advancedManager
+  unfolding step laidInPlace laidInSpare laid purgedStore
   stays (create s) h = no-proof h
-  stays (manage Begin) h = managed Begin refl
-  stays (manage (Commit i)) h = no-proof h
-  stays (manage (BeginRo e)) h = managed (BeginRo e) refl
-  stays (manage (EndRo n)) h = managed (EndRo n) refl
-  stays (manage (AdvanceLse n)) h = managed (AdvanceLse n) refl
+  stays (manage c) h = managed c h
   stays (append i q batch) h = split (accepted (appendAnswer i q batch st)) (λ t. rw t) (λ f. rw f)
   stays (clear i q) h = split (accepted (clearAnswer i q st)) (λ t. rw t) (λ f. rw f)
   stays (rollback i) h = no-proof h

@@ -141,11 +141,11 @@ module _ (q : Ask) (P Q : Shown) {M : Type 1} (𝓤 : URA M) (H : Heap 𝓤) (A 
       -- what is asked and loaded, and the slices that are lent for it; the plan
       abbrev pub HeadsAt : List Use → Item 𝓤
       HeadsAt m = Frame Heads (holds (q .asked .val (asksOf q (y .state))) ∷ holds (vbool (restOf q (y .state) (y
-          .entries .list) (length (y .rows .list)))) ∷ m)
+          .entries .list) (y .rows .list))) ∷ m)
 
       abbrev pub PlansAt : Use → List Use → Item 𝓤
       PlansAt u m = Frame Plans (u ∷ holds (vptr (y .entries .block) (y .entries .start)) ∷ holds (held (y .entries)) ∷
-          m)
+          holds (vptr (y .rows .block) (y .rows .start)) ∷ holds (held (y .rows)) ∷ m)
 
   pub measuring : (b : Bool) (n : List Shown) (l : Load n) (at-l : Places q P b n l) (y : Passed b n) → TailFits b n
       (κs-of b n y) (y .rest) → {C : Calls 𝓤 H} {Λ : Loops 𝓤 H} {i j : Item 𝓤} {Γ : List (Item 𝓤)} {rest : Body} {p :
@@ -178,13 +178,13 @@ module _ (q : Ask) (P Q : Shown) {M : Type 1} (𝓤 : URA M) (H : Heap 𝓤) (A 
     loading (lot X f of key) at-l known k = let l = lot X f of key in let j = keyed key b (κs-of b n y) (y .rest) in
         let z = of (y .entries .list) (y .state .partitions) j in
         assigns ! (addr ! (from ! (fld ! refl (hop ! (look-in ! 2 (sub ! 0 refl (within ! 1 refl))) (stop !))))) (spot !
-            (at-plan b n l at-l 3) (stop !)) (sets ! 5 3 refl tt (tt, tt)) $
-        assigns ! (agg ! (and-then ! (get ! 5 3 refl (at-plan b n l at-l 3) refl) (and-then ! (load ! (from ! (fld !
+            (at-plan b n l at-l 5) (stop !)) (sets ! 5 5 refl tt (tt, tt)) $
+        assigns ! (agg ! (and-then ! (get ! 5 5 refl (at-plan b n l at-l 5) refl) (and-then ! (load ! (from ! (fld !
             refl (stop !))) (look-in ! 2 (sub ! 1 refl (within ! 1 refl)))) (no-more !)))) (spot ! (at-plan b n l at-l
-            4) (stop !)) (sets ! 5 4 refl tt (tt, (tt, (record { fits = r .0 }, tt)))) $
+            6) (stop !)) (sets ! 5 6 refl tt (tt, (tt, (record { fits = r .0 }, tt)))) $
         share-call (fmOf 𝓤 H (W .laws) 𝓣) T.the-row X (partitions ∷ number ∷ []) of known (named 0) (y .entries) r (λ _.
             (y .state .partitions, (j, tt))) (λ _. (in-books (y .state) gs .1 .1 .0, (fits-key key b y ft, tt))) z (λ _.
-            refl) (λ _ _ _. and-then ! (get ! 5 4 refl (at-plan b n l at-l 4) refl) (and-then ! (partitions-arg ! 2 (y
+            refl) (λ _ _ _. and-then ! (get ! 5 6 refl (at-plan b n l at-l 6) refl) (and-then ! (partitions-arg ! 2 (y
             .state) refl refl refl refl) (and-then ! (get ! 2 (behind b (key .local)) refl (lies-in 𝓤 H (params b n)
             (vals-of b n y) (at-l .args) _ (behind b (key .local)) _ well (has-key key b y)) (has-key key b y)) (no-more
             !)))) (λ gx.

@@ -54,11 +54,12 @@ use Rattle.shapes.proofs.Shape.{wrClauses}
 use Rattle.shapes.proofs.Batched.{Places, Passed, κs-of, vals-of, Lens, Heads, Plans, Temps, E, at-len, at-head}
 use Rattle.shapes.proofs.Batched.{at-plan, at-temp, Params, measuring, loading, planning, sent, sentVals, sends}
 use Rattle.shapes.proofs.Batched.{reads-on, as-batched}
-use Rattle.walks.proofs.Shown.{Shown, number, flag}
-use Rattle.walks.proofs.Calls.{yield-call, share-call, leave-call}
+use Rattle.walks.proofs.Shown.{Shown, flag}
+use Rattle.walks.proofs.Calls.{yield-call, leave-call}
 use Rattle.walks.proofs.Calls.{mut-with-call}
-use Rattle.shapes.proofs.Core.{state, books, Ask, askedParts, asksOf, restOf, Asks, Rests, in-books}
+use Rattle.shapes.proofs.Core.{state, books, Ask, askedParts, partsOf, asksOf, restOf, Asks, Rests, in-books}
 use Rattle.shapes.proofs.Core.{ask-args}
+use Rattle.shapes.proofs.Two.{share2-call}
 
 module _ (sh : Shape) where
   abbrev P : Shown
@@ -210,20 +211,27 @@ module _ (sh : Shape) where
               assigns ! (of-opd ! (load ! (from ! (fld ! refl (stop !))) (look-in ! 2 (sub ! 1 refl (within ! 2
                   refl))))) (spot ! (at-l 1) (stop !)) (sets ! 3 1 refl tt (tt, record { fits = r₂ .0 })) $
               measuring q P Q 𝓤 H A W b n l pl y ft $
-              yield-call fm (q .asked) askedParts (q .askedOf) known-ask (y .state .clock, (y .state
-                  .writers, (y .state .partitions, tt))) (in-books (y .state) gb) (λ _. ask-args ! 3 (y .state) refl
-                  refl refl refl) (λ ga.
+              yield-call fm (q .asked) askedParts (q .askedOf) known-ask (partsOf (y .state)) (in-books (y .state) gb)
+                  (λ _. ask-args ! 3 (y .state) refl refl refl refl) (λ ga.
               land ! (spot ! (at-h 0) (stop !)) (sets ! 4 0 refl tt (q .asked .wt 𝓤 H A W (asksOf q (y .state)) ga)) $
               assigns ! (addr ! (from ! (fld ! refl (hop ! (look-in ! 2 (sub ! 0 refl (within ! 1 refl))) (stop !)))))
                   (spot ! (at-p 1) (stop !)) (sets ! 5 1 refl tt (tt, tt)) $
               assigns ! (agg ! (and-then ! (get ! 5 1 refl (at-p 1) refl) (and-then ! (load ! (from ! (fld ! refl (stop
                   !))) (look-in ! 2 (sub ! 1 refl (within ! 1 refl)))) (no-more !)))) (spot ! (at-p 2) (stop !)) (sets !
                   5 2 refl tt (tt, (tt, (record { fits = r₁ .0 }, tt)))) $
-              share-call fm T.the-row flag (number ∷ q .asked ∷ []) (q .soundOf) known-rest (named 0) (y .entries) r₁ (λ
-                  _. (length rs, (asksOf q (y .state), tt))) (λ _. ((refl, r₂ .0), (ga, tt))) (restOf q (y .state) es
-                  (length rs)) (λ _. refl) (λ _ _ _. and-then ! (get ! 5 2 refl (at-p 2) refl) (and-then ! (get ! 3 1
-                  refl (at-l 1) refl) (and-then ! (get ! 4 0 refl (at-h 0) refl) (no-more !)))) (λ gf.
-              land ! (spot ! (at-h 1) (stop !)) (sets ! 4 1 refl tt (tt, tt)) $
+              assigns ! (addr ! (from ! (fld ! refl (hop ! (look-in ! 2 (sub ! 0 refl (within ! 2 refl))) (stop !)))))
+                  (spot ! (at-p 3) (stop !)) (sets ! 5 3 refl tt (tt, tt)) $
+              assigns ! (agg ! (and-then ! (get ! 5 3 refl (at-p 3) refl) (and-then ! (load ! (from ! (fld ! refl (stop
+                  !))) (look-in ! 2 (sub ! 1 refl (within ! 2 refl)))) (no-more !)))) (spot ! (at-p 4) (stop !)) (sets !
+                  5 4 refl tt (tt, (tt, (record { fits = r₂ .0 }, tt)))) $
+              move ! (0 ∷ 1 ∷ 7 ∷ 8 ∷ []) $
+              -- [the entries; the rows; the frames; the tail; room for the result]
+              share2-call fm T.the-row u64 flag (q .asked ∷ []) (q .soundOf) known-rest (named 0) (named 1) (y .entries)
+                  (y .rows) r₁ r₂ (λ _. (asksOf q (y .state), tt)) (λ _. (ga, tt)) (restOf q (y .state) es rs) (λ _.
+                  refl) (λ _ _ _ _ _ _. and-then ! (get ! 8 2 refl (at-p 2) refl) (and-then ! (get ! 8 4 refl (at-p 4)
+                  refl) (and-then ! (get ! 7 0 refl (at-h 0) refl) (no-more !)))) (λ gf.
+              land ! (spot ! (at-h 1) (stop !)) (sets ! 6 1 refl tt (tt, tt)) $
+              move ! (0 ∷ 1 ∷ 4 ∷ 5 ∷ 6 ∷ 7 ∷ 8 ∷ 2 ∷ 3 ∷ []) $
               loading q P Q 𝓤 H A W b n y r₁ gb ft well 𝓣 c ms l pl known-load (λ gx.
               yield-call fm P (cored l c) (sh .planOf) known-core (got q (y .state) es rs b κs (y .rest) c ms l)
                   (fits-got q (y .state) es rs b κs (y .rest) c ms l gb (refl, r₁ .0) (refl, r₂ .0) gx (fits-measured b

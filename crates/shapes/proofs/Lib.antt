@@ -3,6 +3,7 @@ pub mod Callers
 pub mod Change
 pub mod Core
 pub mod Folds
+pub mod Land
 pub mod Load
 pub mod Look
 pub mod Roll

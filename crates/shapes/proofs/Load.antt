@@ -80,8 +80,8 @@ keyed k false κs t = k .of 2 κs t
 module _ {n : List Shown} (q : Ask) (s : State) (es : List Entry) (rs : List ℕ) (b : Bool) (κs : Lfts (lives b)) (t :
     Tail b n κs) (c : List Shown) (m : Nums 0 tt c) where
   abbrev pub got : (l : Load n) → Nums 0 tt (cored l c)
-  got nothing = (s, (restOf q s es (length rs), (length es, (length rs, m))))
-  got (lot X f of k) = (s, (restOf q s es (length rs), (of es (s .partitions) (keyed k b κs t), (length es, (length rs,
+  got nothing = (s, (restOf q s es rs, (length es, (length rs, m))))
+  got (lot X f of k) = (s, (restOf q s es rs, (of es (s .partitions) (keyed k b κs t), (length es, (length rs,
       m)))))
 
   -- what is loaded is in range

@@ -58,8 +58,9 @@ use Rattle.walks.proofs.Values.{drops, lastly, no-fit, had, drops-go, values, k
 use Rattle.walks.proofs.Values.{applied, spells, spelt, vals, Fits, tells, typed, moved, fits-moved, args-after}
 use Rattle.walks.proofs.Shown.{Shown, number, flag}
 use Rattle.walks.proofs.Calls.{Yields, yield-call, find-call, Leaves, leave-call}
-use Rattle.shapes.proofs.Core.{state, partitions, books, Ask, askedParts, askedFields, asksOf, restOf}
+use Rattle.shapes.proofs.Core.{state, partitions, books, Ask, askedParts, partsOf, askedFields, asksOf, restOf}
 use Rattle.shapes.proofs.Core.{Asks, Rests, in-books, ask-args, partitions-arg}
+use Rattle.shapes.proofs.Two.{find2-call}
 use Rattle.shapes.proofs.Load.{Key, LotLoads}
 
 pub record Scan : Type 2 where
@@ -79,8 +80,8 @@ pub record Scan : Type 2 where
   pub answerOf : plan .row .Denot → answer .row .Denot
   pub Ends : State → List Entry → List ℕ → List ℕ → Of given (answer .row .Denot → List ℕ → Type 0)
   pub ends : (s : State) → Is K.the-row s (books s ∷ []) → (es : List Entry) (rs bs : List ℕ) (κs : Lfts 3) (t : Nums 3
-      κs given) → let w = applied 0 tt (number ∷ given) (planOf s (restOf asks s es (length rs)) (loadOf es (s
-      .partitions) (key .of 3 κs t))) (length bs, moved 3 κs 0 tt given t) in applied 3 κs given (Ends s es rs bs) t
+      κs given) → let w = applied 0 tt (number ∷ given) (planOf s (restOf asks s es rs) (loadOf es (s .partitions)
+      (key .of 3 κs t))) (length bs, moved 3 κs 0 tt given t) in applied 3 κs given (Ends s es rs bs) t
       (answerOf w) (bytesBy bs w)
 
 abbrev word : Ty
@@ -91,7 +92,7 @@ params n = K′.mir ∷ sliceTy (tyRef (named 0) imm (pointee (T.the-row .writte
     sliceTy (tyRef (named 2) mut (tyInt w8)) ∷ tys n
 
 abbrev temps : Ask → Shown → Shown → List Ty
-temps q X P = word ∷ word ∷ q .asked .mir ∷ tyBool ∷ X .mir ∷ P .mir ∷ tyUnit ∷ tyRef erased mut (tyInt w8) ∷ sliceTy
+temps q X P = word ∷ q .asked .mir ∷ tyBool ∷ X .mir ∷ P .mir ∷ tyUnit ∷ tyRef erased mut (tyInt w8) ∷ sliceTy
     (tyRef erased mut (tyInt w8)) ∷ []
 
 abbrev temp : List Shown → ℕ → ℕ
@@ -123,18 +124,17 @@ module _ (sh : Scan) where
     outlives = [];
     params = suc (suc (suc (suc (length n))));
     locals = local (Q .mir) valueLocal ∷ (asLocals (params n) ++ (asLocals (temps q X P) ++ []));
-    body = seq (assign (place (temp n 0) []) (rvOpd (copy (place 3 (field 1 ∷ [])))))
-      (seq (assign (place (temp n 1) []) (rvOpd (copy (place 4 (field 1 ∷ [])))))
-      (seq (call (q .ask) askedFields (place (temp n 2) []))
-      (seq (call (q .rest) (copy (place 2 []) ∷ copy (place (temp n 0) []) ∷ copy (place (temp n 2) []) ∷ []) (place
-          (temp n 3) []))
+    body = seq (assign (place (temp n 0) []) (rvOpd (copy (place 4 (field 1 ∷ [])))))
+      (seq (call (q .ask) askedFields (place (temp n 1) []))
+      (seq (call (q .rest) (copy (place 2 []) ∷ copy (place 3 []) ∷ copy (place (temp n 1) []) ∷ []) (place (temp n 2)
+          []))
       (seq (call (sh .load) (copy (place 2 []) ∷ copy (place 1 (field 4 ∷ [])) ∷ copy (place (suc (behind (sh .key
-          .local))) []) ∷ []) (place (temp n 4) []))
-      (seq (call (sh .core) (copy (place 1 []) ∷ copy (place (temp n 3) []) ∷ copy (place (temp n 4) []) ∷ copy (place
-          (temp n 1) []) ∷ copies 4 n) (place (temp n 5) []))
-      (reborrow 4 (temp n 7) (temp n 8) (tyInt w8)
-      (seq (call (sh .wr) (copy (place (temp n 8) []) ∷ copy (place (temp n 5) []) ∷ []) (place (temp n 6) []))
-      (seq (call (sh .fin) (copy (place (temp n 5) []) ∷ []) (place 0 [])) return))))))));
+          .local))) []) ∷ []) (place (temp n 3) []))
+      (seq (call (sh .core) (copy (place 1 []) ∷ copy (place (temp n 2) []) ∷ copy (place (temp n 3) []) ∷ copy (place
+          (temp n 0) []) ∷ copies 4 n) (place (temp n 4) []))
+      (reborrow 4 (temp n 6) (temp n 7) (tyInt w8)
+      (seq (call (sh .wr) (copy (place (temp n 7) []) ∷ copy (place (temp n 4) []) ∷ []) (place (temp n 5) []))
+      (seq (call (sh .fin) (copy (place (temp n 4) []) ∷ []) (place 0 [])) return)))))));
   }
 
   abbrev pub ended : Ended
@@ -198,7 +198,7 @@ module _ (sh : Scan) where
       z = sh .loadOf (x₁ .list) (s .partitions) j
 
       abbrev ok : Bool
-      ok = restOf q s (x₁ .list) (length (x₂ .list))
+      ok = restOf q s (x₁ .list) (x₂ .list)
 
       abbrev ms : Nums 0 tt (number ∷ n)
       ms = (length (x₃ .list), moved 3 κs 0 tt n t)
@@ -255,51 +255,48 @@ module _ (sh : Scan) where
           at-t : (i : ℕ) → at 𝓤 H env (temp n i) ≡ at 𝓤 H (Temps ++ []) i
           at-t i = shifted 𝓤 H (asLocals (params n)) ps (Temps ++ []) i
 
-          body : Sq W (‵ (token x₁) ∷ ‵ (shr x₁) ∷ Frame Params (map holds passed) ∷ Frame Temps (bares (asLocals (temps
-              q X P))) ∷ ‵ (token x₃) ∷ ‵ (mutAt (named 2) x₃ (x₃ .list)) ∷ ‵ (token x₂) ∷ ‵ (froom (Q .mir) o zero) ∷ ‵
-              (fdies (Q .mir) o) ∷ []) (runs (𝓣 .C) (𝓣 .Λ) env (function .body) (atRet env Post))
+          -- [the entries; the rows; the frames; the bitmap; room for the result]
+          body : Sq W (‵ (token x₁) ∷ ‵ (shr x₁) ∷ ‵ (token x₂) ∷ ‵ (shr x₂) ∷ Frame Params (map holds passed) ∷ Frame
+              Temps (bares (asLocals (temps q X P))) ∷ ‵ (token x₃) ∷ ‵ (mutAt (named 2) x₃ (x₃ .list)) ∷ ‵ (froom (Q
+              .mir) o zero) ∷ ‵ (fdies (Q .mir) o) ∷ []) (runs (𝓣 .C) (𝓣 .Λ) env (function .body) (atRet env Post))
           body =
-              assigns ! (of-opd ! (load ! (from ! (fld ! refl (stop !))) (look-in ! 2 (sub ! 1 refl (within ! 2
-                  refl))))) (spot ! (at-t 0) (stop !)) (sets ! 3 0 refl tt (tt, record { fits = r₂ .0 })) $
-              assigns ! (of-opd ! (load ! (from ! (fld ! refl (stop !))) (look-in ! 2 (sub ! 1 refl (within ! 3
-                  refl))))) (spot ! (at-t 1) (stop !)) (sets ! 3 1 refl tt (tt, record { fits = r₃ .0 })) $
-              yield-call fm (q .asked) askedParts (q .askedOf) known-ask (s .clock, (s .writers, (s
-                  .partitions, tt))) (in-books s gs) (λ _. ask-args ! 3 s refl refl refl refl) (λ ga.
-              land ! (spot ! (at-t 2) (stop !)) (sets ! 3 2 refl tt (q .asked .wt 𝓤 H A W (asksOf q s) ga)) $
-              find-call fm T.the-row flag (number ∷ q .asked ∷ []) (q .soundOf) known-rest x₁ (length (x₂ .list),
-                  (asksOf
-                  q s, tt)) ((refl, r₂ .0), (ga, tt)) (λ _ _. and-then ! (get ! 2 1 refl refl refl) (and-then ! (get ! 3
-                  0 refl (at-t 0) refl) (and-then ! (get ! 3 2 refl (at-t 2) refl) (no-more !)))) (λ gf.
-              land ! (spot ! (at-t 3) (stop !)) (sets ! 3 3 refl tt (tt, tt)) $
+              assigns ! (of-opd ! (load ! (from ! (fld ! refl (stop !))) (look-in ! 4 (sub ! 1 refl (within ! 3
+                  refl))))) (spot ! (at-t 0) (stop !)) (sets ! 5 0 refl tt (tt, record { fits = r₃ .0 })) $
+              yield-call fm (q .asked) askedParts (q .askedOf) known-ask (partsOf s) (in-books s gs) (λ _. ask-args ! 5
+                  s refl refl refl refl) (λ ga.
+              land ! (spot ! (at-t 1) (stop !)) (sets ! 5 1 refl tt (q .asked .wt 𝓤 H A W (asksOf q s) ga)) $
+              find2-call fm T.the-row u64 flag (q .asked ∷ []) (q .soundOf) known-rest x₁ x₂ (asksOf q s, tt) (ga, tt)
+                  (λ _ _ _. and-then ! (get ! 3 1 refl refl refl) (and-then ! (get ! 3 2 refl refl refl) (and-then !
+                  (get ! 4 1 refl (at-t 1) refl) (no-more !)))) (λ gf.
+              land ! (spot ! (at-t 2) (stop !)) (sets ! 5 2 refl tt (tt, tt)) $
               find-call fm T.the-row X (partitions ∷ number ∷ []) (sh .loadOf) known-load x₁ (s .partitions, (j, tt))
-                  (in-books s gs .1 .1 .0, (sh .key .fits 3 κs t ft, tt)) (λ _ _. and-then ! (get ! 2 1 refl refl refl)
-                  (and-then ! (partitions-arg ! 2 s refl refl refl refl) (and-then ! (get ! 2 (behind (sh .key .local))
+                  (in-books s gs .1 .1 .0, (sh .key .fits 3 κs t ft, tt)) (λ _ _. and-then ! (get ! 4 1 refl refl refl)
+                  (and-then ! (partitions-arg ! 4 s refl refl refl refl) (and-then ! (get ! 4 (behind (sh .key .local))
                   refl (lies-in 𝓤 H (params n) passed ps _ (behind (sh .key .local)) _ well (sh .key .has 3 κs t)) (sh
                   .key .has 3 κs t)) (no-more !)))) (λ gx.
-              land ! (spot ! (at-t 4) (stop !)) (sets ! 3 4 refl tt (X .wt 𝓤 H A W z gx)) $
+              land ! (spot ! (at-t 3) (stop !)) (sets ! 5 3 refl tt (X .wt 𝓤 H A W z gx)) $
               yield-call fm P (state ∷ flag ∷ X ∷ number ∷ n) (sh .planOf) known-core (s, (ok, (z, ms))) (gs, (refl,
-                  (gx,
-                  ((refl, r₃ .0), fits-moved 3 κs 0 tt n t ft)))) (λ _. and-then ! (get ! 3 0 refl refl refl) (and-then
-                  ! (get ! 4 3 refl (at-t 3) refl) (and-then ! (get ! 4 4 refl (at-t 4) refl) (and-then ! (get ! 4 1
-                  refl (at-t 1) refl) (args-after 𝓤 H A W _ _ 3 (params n) ps _ 3 κs (books s ∷ held x₁ ∷ held x₂ ∷
-                  held x₃ ∷ []) n t well refl))))) (λ gp.
-              land ! (spot ! (at-t 5) (stop !)) (sets ! 3 5 refl tt (P .wt 𝓤 H A W p gp)) $
-              assigns ! (addr ! (from ! (fld ! refl (hop ! (look-in ! 2 (sub ! 0 refl (within ! 3 refl))) (stop !)))))
-                  (spot ! (at-t 7) (stop !)) (sets ! 3 7 refl tt (tt, tt)) $
-              assigns ! (agg ! (and-then ! (get ! 3 7 refl (at-t 7) refl) (and-then ! (load ! (from ! (fld ! refl (stop
-                  !))) (look-in ! 2 (sub ! 1 refl (within ! 3 refl)))) (no-more !)))) (spot ! (at-t 8) (stop !)) (sets !
-                  3 8 refl tt (tt, (tt, (record { fits = r₃ .0 }, tt)))) $
-              move ! (4 ∷ 5 ∷ 2 ∷ 3 ∷ []) $
+                  (gx, ((refl, r₃ .0), fits-moved 3 κs 0 tt n t ft)))) (λ _. and-then ! (get ! 5 0 refl refl refl)
+                  (and-then ! (get ! 6 2 refl (at-t 2) refl) (and-then ! (get ! 6 3 refl (at-t 3) refl) (and-then ! (get
+                  ! 6 0 refl (at-t 0) refl) (args-after 𝓤 H A W _ _ 5 (params n) ps _ 3 κs (books s ∷ held x₁ ∷ held x₂
+                  ∷ held x₃ ∷ []) n t well refl))))) (λ gp.
+              land ! (spot ! (at-t 4) (stop !)) (sets ! 5 4 refl tt (P .wt 𝓤 H A W p gp)) $
+              assigns ! (addr ! (from ! (fld ! refl (hop ! (look-in ! 4 (sub ! 0 refl (within ! 3 refl))) (stop !)))))
+                  (spot ! (at-t 6) (stop !)) (sets ! 5 6 refl tt (tt, tt)) $
+              assigns ! (agg ! (and-then ! (get ! 5 6 refl (at-t 6) refl) (and-then ! (load ! (from ! (fld ! refl (stop
+                  !))) (look-in ! 4 (sub ! 1 refl (within ! 3 refl)))) (no-more !)))) (spot ! (at-t 7) (stop !)) (sets !
+                  5 7 refl tt (tt, (tt, (record { fits = r₃ .0 }, tt)))) $
+              move ! (6 ∷ 7 ∷ 4 ∷ 5 ∷ []) $
               leave-call fm u8 (P ∷ []) (sh .bytesBy) known-wr (named 2) x₃ r₃ (λ _. (p, tt)) (λ _. (gp, tt)) bs′ (λ
                   _. refl)
-              (λ _ _ _. and-then ! (get ! 3 8 refl (at-t 8) refl) (and-then ! (get ! 3 5 refl (at-t 5) refl) (no-more
+              (λ _ _ _. and-then ! (get ! 3 7 refl (at-t 7) refl) (and-then ! (get ! 3 4 refl (at-t 4) refl) (no-more
                   !)))
-              (λ lb. land ! (spot ! (at-t 6) (stop !)) (sets ! 3 6 refl tt (tt, tt)) $
-              -- [the bitmap; the frames; the entries; the rows' token; room for the result]
-              yield-call fm Q (P ∷ []) (sh .answerOf) known-fin (p, tt) (gp, tt) (λ _. and-then ! (get ! 4 5 refl
-                  (at-t 5) refl) (no-more !)) (λ gz.
-              land ! (from ! (stop !)) (init ! 7 refl (Q .wt 𝓤 H A W ans gz)) $
-              returns ! (look ! 7 refl) $ forget ! 7 refl $ move ! (7 ∷ 8 ∷ 2 ∷ 3 ∷ []) $ free1 ! $
+              (λ lb. land ! (spot ! (at-t 5) (stop !)) (sets ! 3 5 refl tt (tt, tt)) $
+              -- [the bitmap; the frames; the entries; the rows; room for the result]
+              yield-call fm Q (P ∷ []) (sh .answerOf) known-fin (p, tt) (gp, tt) (λ _. and-then ! (get ! 4 4 refl
+                  (at-t 4) refl) (no-more !)) (λ gz.
+              land ! (from ! (stop !)) (init ! 8 refl (Q .wt 𝓤 H A W ans gz)) $
+              returns ! (look ! 8 refl) $ forget ! 8 refl $ move ! (8 ∷ 9 ∷ 2 ∷ 3 ∷ []) $ free1 ! $
               frees-frame ! Params _ $ frees-frame ! Temps [] $ free0 ! $ keep ! (0 ∷ 1 ∷ 2 ∷ 4 ∷ []) $ by ! (exits
                   gs lb gz)))))))
 
@@ -313,9 +310,9 @@ module _ (sh : Scan) where
             -- [the arguments; the other locals; the result; the tokens; what the parameters own]
             move ! (4 ∷ 5 ∷ []) $ split ! $ move ! (1 ∷ []) $ split ! $ move ! (1 ∷ []) $ split ! $ move ! (4 ∷ []) $
                 fsplit ! $
-            drop ! $ fsplit ! $ move ! (1 ∷ []) $ fsplit ! $ drop ! $ fsplit ! $
-            -- [the bitmap; the numbers; the entries; the third token; true; the second; the first; the locals]
-            keep ! (6 ∷ 2 ∷ 7 ∷ 8 ∷ 3 ∷ 0 ∷ 5 ∷ 9 ∷ 10 ∷ []) $ body o ps ts)))
+            drop ! $ fsplit ! $ move ! (1 ∷ []) $ fsplit ! $ move ! (1 ∷ []) $ fsplit ! $
+            -- [the bitmap; the numbers; the rows; the entries; the third token; true; the other tokens; the locals]
+            keep ! (7 ∷ 3 ∷ 6 ∷ 2 ∷ 8 ∷ 9 ∷ 4 ∷ 0 ∷ 10 ∷ 11 ∷ []) $ body o ps ts)))
 
     walks : Walks 𝓤 H A ended stayed (WpFn 𝓤 H (𝓣 .C) (𝓣 .Λ) function) (clauses 𝓤)
     walks = walked 𝓤 H A ended stayed (clauses 𝓤) (WpFn 𝓤 H (𝓣 .C) (𝓣 .Λ) function) (λ κs. (LL.vals K.the-type

@@ -90,7 +90,8 @@ heads q l = q .asked .mir ∷ tyBool ∷ loadTys l
 
 -- the plan, and the slices that are lent for these
 abbrev pub plans : {n : List Shown} → Shown → Load n → List Ty
-plans P l = P .mir ∷ tyRef erased imm entry ∷ sliceTy (tyRef erased imm entry) ∷ lentTys l
+plans P l = P .mir ∷ tyRef erased imm entry ∷ sliceTy (tyRef erased imm entry) ∷ tyRef erased imm word ∷ sliceTy (tyRef
+    erased imm word) ∷ lentTys l
 
 -- what the writes need
 abbrev pub temps : List Ty
@@ -129,8 +130,8 @@ behind false i = suc (suc (suc i))
 module _ (b : Bool) (n : List Shown) (q : Ask) (P : Shown) where
   abbrev pub loads : Load n → Body → Body
   loads nothing rest = rest
-  loads (lot X f of k) rest = let l = lot X f of k in reborrow 2 (planned b n q l P 3) (planned b n q l P 4) T′.mir
-      (seq (call f (copy (place (planned b n q l P 4) []) ∷ copy (place 1 (field 4 ∷ [])) ∷ copy (place (suc (behind b
+  loads (lot X f of k) rest = let l = lot X f of k in reborrow 2 (planned b n q l P 5) (planned b n q l P 6) T′.mir
+      (seq (call f (copy (place (planned b n q l P 6) []) ∷ copy (place 1 (field 4 ∷ [])) ∷ copy (place (suc (behind b
           (k .local))) []) ∷ []) (place (head b n q l 2) [])) rest)
 
   abbrev pub operands : Load n → List Operand
@@ -192,8 +193,9 @@ module _ (sh : Shape) where
       (measure b n
       (seq (call (q .ask) askedFields (place (head b n q l 0) []))
       (reborrow 2 (planned b n q l P 1) (planned b n q l P 2) T′.mir
-      (seq (call (q .rest) (copy (place (planned b n q l P 2) []) ∷ copy (place (len b n 1) []) ∷ copy (place (head b n
-          q l 0) []) ∷ []) (place (head b n q l 1) []))
+      (reborrow 3 (planned b n q l P 3) (planned b n q l P 4) word
+      (seq (call (q .rest) (copy (place (planned b n q l P 2) []) ∷ copy (place (planned b n q l P 4) []) ∷ copy (place
+          (head b n q l 0) []) ∷ []) (place (head b n q l 1) []))
       (loads b n q P l
       (seq (call (sh .core) (operands b n q P l) (place (planned b n q l P 0) []))
       (reborrow 2 (temp b n q l P 1) (temp b n q l P 2) T′.mir
@@ -202,7 +204,7 @@ module _ (sh : Shape) where
       (reborrow 3 (temp b n q l P 3) (temp b n q l P 4) word
       (seq (call (sh .wr) (onward b n q P l) (place (temp b n q l P 0) []))
       (seq (call (sh .fin) (copy (place 1 []) ∷ copy (place (planned b n q l P 0) []) ∷ []) (place 0 []))
-      return))))))))))));
+      return)))))))))))));
   }
 
   abbrev pub ended : Ended

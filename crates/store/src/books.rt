@@ -55,9 +55,11 @@ pub fn landing(before: State, done: Kept) -> Landing
 pub fn landing_without(before: State, done: Kept, gone: u64) -> Landing
     ensures { λ r. ⌜ r ≡ landingOf before done gone ⌝ }
 {
+    let partitions = before.partitions;
+    let totals = before.totals;
     Landing {
-        partitions: before.partitions,
-        totals: before.totals,
+        partitions: partitions,
+        totals: totals,
         reach: Reach {
             over: before.clock.lce,
             high: done.state.clock.lce,

@@ -1,18 +1,20 @@
 -- The calls on the manager: all that demand 3 and the promises want of each. Definitions: rules/specs/Calls.antt
 -- `managerAnswer`, `managerAfter`, rules/specs/Claim.antt `eventOf`. In order: it answers no 5 on a sound manager;
--- accepted, it keeps a store sound; the ledger follows it; it keeps the snapshot of a reader that it does not close,
+-- accepted, it keeps a store sound; what it does to LCE; the ledger follows it; it keeps the snapshot of a reader that it does not close,
 -- and all lines.
 -- Assumes nothing.
 use mathlib.Core.Path.{_≡_, refl, _∙_}
 use mathlib.Core.Bool.{Bool, true, false, not, cond}
-use Prim.Native.Nat.{suc}
+use Prim.Native.Nat.{suc, _≤_}
+use native.Mathlib.Omega.{arith}
 use lib.Dec.{leb, eqb}
 use borrow.Author.Tests.{not-true}
 use Rattle.lists.proofs.Laws.Bools.{split}
 use Rattle.rules.specs.Limits.{lastEpoch, lastTicket, writersMax, readersMax}
-use Rattle.rules.specs.Manager.{hasOpen, hasReader}
+use Rattle.lists.proofs.Laws.Tests.{no-proof}
+use Rattle.rules.specs.Manager.{hasOpen, hasReader, writersOf}
 use Rattle.rules.specs.Begin.{begunManager}
-use Rattle.rules.specs.Close.{committedManager}
+use Rattle.rules.specs.Close.{committedTxns, settled, committedManager}
 use Rattle.rules.specs.ReadOnly.{snapshotEpoch, begunRoManager, endedRoManager}
 use Rattle.rules.specs.Safe.{blocked, targetOf, advancedManager}
 use Rattle.rules.specs.Store.{Store, managerOf, withManager}
@@ -24,6 +26,7 @@ use Rattle.rules.specs.Step.{manage, step}
 use Rattle.rules.specs.Ledger.{Ledger, heard}
 use Rattle.rules.specs.Claim.{eventOf, isOpenIn}
 use Rattle.rules.specs.Promises.{isLoad, isPage, spares}
+use Rattle.rules.specs.Totals.{leavesTotals}
 use Rattle.rules.specs.Manager.{Manager}
 use Rattle.rules.specs.declared.ManagerCall.{ManagerCall}
 use Rattle.rules.specs.declared.ManagerCall.the-variants.{Begin, Commit, BeginRo, EndRo, AdvanceLse}
@@ -33,7 +36,7 @@ use Rattle.rules.specs.declared.Answer.{Answer}
 use Rattle.laws.proofs.Laws.NotUnsound.{Not5, ends, past}
 use Rattle.laws.proofs.Laws.Calls.{begin-passed, close-passed, begin-ro-passed, advance-passed}
 use Rattle.laws.proofs.Laws.Begin.{begun-ok}
-use Rattle.laws.proofs.Laws.Close.{committed-ok}
+use Rattle.laws.proofs.Laws.Close.{settled-rises, committed-ok}
 use Rattle.laws.proofs.Laws.ReadOnly.{begunRo-ok, endedRo-ok}
 use Rattle.laws.proofs.Laws.Safe.{advanced-ok}
 use Rattle.laws.proofs.Laws.Epochs.{begun-epochOk, committed-epochOk, begunRo-epochOk, endedRo-epochOk}
@@ -87,6 +90,27 @@ manager-sound (EndRo n) st ok t = let m = managerOf st in
 manager-sound (AdvanceLse n) st ok t = let m = managerOf st in let k = advance-passed n (sound st) m t in
     with-manager-ok (advancedManager n m) st ok (advanced-ok n m (ok .manager) (k .high) (k .free))
       (λ j q. advanced-epochOk n m j ∙ q)
+
+-- ---- LCE
+
+-- no call lowers it
+pub lce-rises : (c : ManagerCall) (m : Manager) → m .clock .lce ≤ managerAfter c m .clock .lce
+unfolding begunManager begunRoManager endedRoManager advancedManager committedManager settled
+lce-rises Begin m = omega arith
+lce-rises (Commit i) m = settled-rises (m .clock .lce) (committedTxns i (writersOf m))
+lce-rises (BeginRo e) m = omega arith
+lce-rises (EndRo n) m = omega arith
+lce-rises (AdvanceLse n) m = omega arith
+
+-- only a commit moves it
+pub lce-stays : (c : ManagerCall) (m : Manager) → leavesTotals (manage c) ≡ true
+    → managerAfter c m .clock .lce ≡ m .clock .lce
+unfolding begunManager begunRoManager endedRoManager advancedManager
+lce-stays Begin m h = refl
+lce-stays (Commit i) m h = no-proof h
+lce-stays (BeginRo e) m h = refl
+lce-stays (EndRo n) m h = refl
+lce-stays (AdvanceLse n) m h = refl
 
 -- ---- the ledger follows
 

@@ -3,8 +3,7 @@
 use mathlib.Core.Path.{_≡_, refl, sym}
 use mathlib.Core.Bool.{Bool, true, false, _&&_, cond}
 use mathlib.Core.List.{List}
-use Prim.Native.Nat.{ℕ, _≤_}
-use native.Mathlib.Omega.{arith}
+use Prim.Native.Nat.{ℕ}
 use lib.ListN.{length}
 use Rattle.lists.proofs.Laws.Bools.{split}
 use Rattle.lists.proofs.Laws.Tests.{and-comm}
@@ -14,23 +13,18 @@ use Rattle.rules.specs.Calls.{createAnswer, managerAnswer, managerAfter}
 use Rattle.rules.specs.Step.{step, create, manage}
 use Rattle.rules.specs.Store.{Store, spansAt, totalAt, totalsOf, stateOf, createdStore}
 use Rattle.rules.specs.Limits.{partitionsMax}
-use Rattle.rules.specs.Begin.{begunManager}
-use Rattle.rules.specs.Close.{committedTxns, settled, committedManager}
-use Rattle.rules.specs.ReadOnly.{begunRoManager, endedRoManager}
-use Rattle.rules.specs.Safe.{advancedManager}
 use Rattle.rules.specs.declared.Answer.{Answer}
 use Rattle.rules.specs.declared.ManagerCall.{ManagerCall}
-use Rattle.rules.specs.declared.ManagerCall.the-variants.{Begin, Commit, BeginRo, EndRo, AdvanceLse}
 use Rattle.rules.specs.declared.Entry.{Entry}
-use Rattle.rules.specs.Manager.{Manager, managerIn, writersOf}
+use Rattle.rules.specs.Manager.{Manager, managerIn}
+use Rattle.rules.specs.Totals.{leavesTotals}
 use Rattle.rules.specs.declared.State.{State}
 use Rattle.partition_sound.specs.Sound.{partitionsOk}
 use Rattle.partition_sound.specs.Asked.{askedOf, lengthsAre, spansOf, totalsAre, restOk, restAsked}
 use Rattle.partition_sound.proofs.Laws.Asked.{rest-asked}
 use Rattle.partition_sound.proofs.Laws.Sound.{wellFormed-is}
 use Rattle.txn.specs.Kept.{keptOf}
-use Rattle.laws.proofs.Laws.Close.{settled-rises}
-use Rattle.laws.proofs.Laws.ManagerCalls.{manager-passed}
+use Rattle.laws.proofs.Laws.ManagerCalls.{manager-passed, lce-rises, lce-stays}
 use Rattle.laws.proofs.Laws.Totals.{sound-facts, totals-still}
 use Rattle.totals.proofs.Laws.Lands.{lands-commit}
 use Rattle.store.specs.Kept.{storeOf, Left, createKept, managerKept, totalsKept}
@@ -67,33 +61,24 @@ module _ (s : State) (n : length (s .partitions .at) ≡ partitionsMax) (n′ : 
   m = managerIn s
 
   -- LCE stays where it was, and the totals with it
-  pub manage-left : (c : ManagerCall) → managerAfter c m .clock .lce ≡ m .clock .lce
+  pub manage-left : (c : ManagerCall) → leavesTotals (manage c) ≡ true
       → Left (step (manage c) st) (managerKept s (restIn s es rs) c) rs es
   unfolding step
-  manage-left c e = rw (sound-is s es rs) (split (accepted (managerAnswer c (sound st) m))
+  manage-left c h = let e = lce-stays c m h in rw (sound-is s es rs) (split (accepted (managerAnswer c (sound st) m))
       (λ t. let ok = sound-facts st n (manager-passed c (sound st) m t) in
         rw t (refl, λ j. storeOf (stateOf (managerAfter c m) (s .partitions) (sym (totals-still st ok n′ (managerAfter c m) e)
           j)) rs es))
       (λ f. rw f (refl, refl)))
 
   -- LCE may rise: what lands is weighed
-  pub manage-lands : (c : ManagerCall) → m .clock .lce ≤ managerAfter c m .clock .lce
+  pub manage-lands : (c : ManagerCall)
       → Left (step (manage c) st) (totalsKept s es rs 0 (managerKept s (restIn s es rs) c)) rs es
   unfolding step totalsOf totalAt spansAt
-  manage-lands c up = rw (sound-is s es rs) (split (accepted (managerAnswer c (sound st) m))
+  manage-lands c = let up = lce-rises c m in rw (sound-is s es rs) (split (accepted (managerAnswer c (sound st) m))
       (λ t. let ok = sound-facts st n (manager-passed c (sound st) m t) in
         rw t (refl, λ j. storeOf (stateOf (managerAfter c m) (s .partitions) (lands-commit st ok n′ (managerAfter c m .clock
           .lce) up j)) rs es))
       (λ f. rw f (refl, refl)))
-
--- no call on the manager lowers LCE
-pub lce-rises : (c : ManagerCall) (m : Manager) → m .clock .lce ≤ managerAfter c m .clock .lce
-unfolding begunManager begunRoManager endedRoManager advancedManager committedManager settled
-lce-rises Begin m = omega arith
-lce-rises (Commit i) m = settled-rises (m .clock .lce) (committedTxns i (writersOf m))
-lce-rises (BeginRo e) m = omega arith
-lce-rises (EndRo t) m = omega arith
-lce-rises (AdvanceLse t) m = omega arith
 
 pub create-left : (s : State) (es : List Entry) (rs : List ℕ) (a : ℕ)
     → Left (step (create a) (storeOf s rs es)) (createKept s (length es) (length rs) a) rs es

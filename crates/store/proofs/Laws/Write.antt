@@ -6,7 +6,7 @@ use mathlib.Core.Bool.{false}
 use mathlib.Core.List.{List, [], _∷_}
 use Prim.Native.Nat.{ℕ, suc, _+_, _-_, _<_}
 use native.Mathlib.Omega.{arith}
-use lib.ListN.{length, set, length-append, length-set}
+use lib.ListN.{length, set, length-append, length-set, length-map}
 use lib.Seq.{set-out}
 use lib.Dec.{ltb, leb, eqb}
 use mir.Val.{Val}
@@ -60,7 +60,7 @@ state-8 s vs g = partitions-8 (s .partitions) _ (g .1 .1 .1 .1 .1 .1 .0)
 
 -- eight totals
 pub totals-8 : (s : State) (vs : List Val) → Is (row state-type.the-type) s vs → length (s .totals) ≡ 8
-totals-8 s vs g = g .1 .1 .1 .1 .1 .1 .1 .0 .1 .0 .1
+totals-8 s vs g = sym (length-map (s .totals) (λ (x : ℕ). x)) ∙ g .1 .1 .1 .1 .1 .1 .1 .0 .1 .0 .1
 
 -- ---- a write carried out, with the batch bs
 

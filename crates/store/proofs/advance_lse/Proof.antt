@@ -1,5 +1,6 @@
 -- `store::advance_lse` meets its contract: it has the shape that shapes' `Look.antt` walks.
 -- Assumes nothing.
+use mathlib.Core.Path.{refl}
 use mathlib.Core.List.{[], _∷_}
 use contract.Running.{givenOf, tables, tablesOf}
 use denote.Triple.Spec.{tripleOf}
@@ -9,13 +10,14 @@ use Rattle.rules.specs.declared.ManagerCall.the-variants.{AdvanceLse}
 use Rattle.store.specs.Kept.{storeOf, Left, managerKept}
 use Rattle.walks.proofs.Shown.{number}
 use Rattle.shapes.proofs.Core.{Asks, Rests}
-use Rattle.shapes.proofs.Look.{Look, asking, Core, meets}
+use Rattle.shapes.proofs.Look.{Look, asking, at-once, Core, meets}
 use Rattle.partition_sound.proofs.ask.Symbol as ask
 use Rattle.partition_sound.proofs.ask.Met as ask-thm
 use Rattle.partition_sound.proofs.rest_ok.Symbol as rest
 use Rattle.partition_sound.proofs.rest_ok.Met as rest-thm
 use Rattle.store.proofs.Types.{kept, asks}
 use Rattle.store.proofs.Laws.Kept.{manage-left}
+use Rattle.store.proofs.Laws.Write.{state-8, totals-8}
 use Rattle.txn_safe.proofs.advance_lse.Symbol as core
 use Rattle.txn_safe.proofs.advance_lse.Met as core-thm
 use Rattle.store.proofs.advance_lse.Key.{name as #store·advance-lse}
@@ -24,10 +26,10 @@ use Rattle.store.proofs.advance_lse.Statement as stated
 use Rattle.store.proofs.advance_lse.Code as code
 
 abbrev shape : Look
-shape = record { head = asking asks; answer = kept; given = number ∷ []; core = core.name;
+shape = record { head = asking asks; answer = kept; given = number ∷ []; ending = at-once; core = core.name;
   answerOf = λ s rest n. managerKept s rest (AdvanceLse n);
   Ends = λ s es rs n r. Left (step (advanceLse n) (storeOf s rs es)) r rs es;
-  ends = λ s g es rs κs t. manage-left s es rs (AdvanceLse (t .0)) }
+  ends = λ s g es rs κs t. manage-left s (state-8 s _ g) (totals-8 s _ g) es rs (AdvanceLse (t .0)) refl }
 
 pub advance-lse-spec : {M : Type 1} → stated.statement M
 unfolding code.routine tablesOf
@@ -40,4 +42,5 @@ advance-lse-spec 𝓤 H 𝓜 𝓖 𝓡 =
     (cited 𝓤 H (Rests asks 𝓤 H (𝓖 .A)) 𝓜 𝓡 code.env rest.name rest.routine code.calls-partition-sound·rest-ok
       (rest-thm.met 𝓤 H 𝓜 𝓖 𝓡)))
     (cited 𝓤 H (Core shape 𝓤 H (𝓖 .A)) 𝓜 𝓡 code.env core.name core.routine code.calls-txn-safe·advance-lse
-      (core-thm.met 𝓤 H 𝓜 𝓖 𝓡)))
+      (core-thm.met 𝓤 H 𝓜 𝓖 𝓡))
+    tt)

@@ -8,18 +8,25 @@ use Rattle.rules.specs.Step.{step, rollback}
 use Rattle.store.specs.Kept.{storeOf, Left, rollBackKept}
 use Rattle.store.specs.Done.{doneRollBack}
 use Rattle.shapes.proofs.Core.{Asks, Rests}
+use Rattle.shapes.proofs.Land.{Makes, Weighs, Answers}
 use Rattle.shapes.proofs.Roll.{Roll, Core, Goes, Rolled, Fin, meets}
 use Rattle.partition_sound.proofs.ask.Symbol as ask
 use Rattle.partition_sound.proofs.ask.Met as ask-thm
 use Rattle.partition_sound.proofs.rest_ok.Symbol as rest
 use Rattle.partition_sound.proofs.rest_ok.Met as rest-thm
+use Rattle.totals.proofs.landing.land.Symbol as land
+use Rattle.totals.proofs.landing.land.Met as land-thm
 use Rattle.undo.proofs.lots.roll_lots.Symbol as roll
 use Rattle.undo.proofs.lots.roll_lots.Met as roll-thm
-use Rattle.store.proofs.Types.{kept, asks}
-use Rattle.store.proofs.Laws.Write.{state-8}
+use Rattle.store.proofs.Types.{kept, asks, landingsWithout}
+use Rattle.store.proofs.Laws.Write.{state-8, totals-8}
 use Rattle.store.proofs.Laws.RollBack.{Rolls, roll-back-left}
 use Rattle.txn_close.proofs.roll_back.Symbol as core
 use Rattle.txn_close.proofs.roll_back.Met as core-thm
+use Rattle.store.proofs.books.landing_without.Symbol as new
+use Rattle.store.proofs.books.landing_without.Met as new-thm
+use Rattle.store.proofs.books.landed.Symbol as landed
+use Rattle.store.proofs.books.landed.Met as landed-thm
 use Rattle.store.proofs.books.goes_on.Symbol as goes
 use Rattle.store.proofs.books.goes_on.Met as goes-thm
 use Rattle.store.proofs.done.roll_back_done.Symbol as fin
@@ -30,14 +37,14 @@ use Rattle.store.proofs.roll_back.Statement as stated
 use Rattle.store.proofs.roll_back.Code as code
 
 abbrev shape : Roll
-shape = record { asks = asks; plan = kept; answer = kept;
+shape = record { asks = asks; plan = kept; answer = kept; lands = landingsWithout;
   core = core.name; goes = goes.name; roll = roll.name; fin = fin.name;
   planOf = rollBackKept;
   goOf = λ w. accepted (w .answer);
   rolls = Rolls;
   answerOf = doneRollBack;
   Ends = λ s es rs i r es′ rs′. Left (step (rollback i) (storeOf s rs es)) r rs′ es′;
-  ends = λ s g es rs i ps es′ rs′ rel. roll-back-left s (state-8 s _ g) es rs i ps es′ rs′ rel }
+  ends = λ s g es rs i ps es′ rs′ rel. roll-back-left s (state-8 s _ g) (totals-8 s _ g) es rs i ps es′ rs′ rel }
 
 pub roll-back-spec : {M : Type 1} → stated.statement M
 unfolding code.routine tablesOf
@@ -51,6 +58,12 @@ roll-back-spec 𝓤 H 𝓜 𝓖 𝓡 =
     (rest-thm.met 𝓤 H 𝓜 𝓖 𝓡))
     (cited 𝓤 H (Core shape 𝓤 H (𝓖 .A)) 𝓜 𝓡 code.env core.name core.routine code.calls-txn-close·roll-back
     (core-thm.met 𝓤 H 𝓜 𝓖 𝓡))
+    ((cited 𝓤 H (Makes landingsWithout 𝓤 H (𝓖 .A)) 𝓜 𝓡 code.env new.name new.routine
+    code.calls-store·books·landing-without (new-thm.met 𝓤 H 𝓜 𝓖 𝓡)),
+    (cited 𝓤 H (Weighs landingsWithout 𝓤 H (𝓖 .A)) 𝓜 𝓡 code.env land.name land.routine code.calls-totals·landing·land
+    (land-thm.met 𝓤 H 𝓜 𝓖 𝓡)),
+    (cited 𝓤 H (Answers landingsWithout 𝓤 H (𝓖 .A)) 𝓜 𝓡 code.env landed.name landed.routine
+    code.calls-store·books·landed (landed-thm.met 𝓤 H 𝓜 𝓖 𝓡)))
     (cited 𝓤 H (Goes shape 𝓤 H (𝓖 .A)) 𝓜 𝓡 code.env goes.name goes.routine code.calls-store·books·goes-on
     (goes-thm.met 𝓤 H 𝓜 𝓖 𝓡))
     (cited 𝓤 H (Rolled shape 𝓤 H (𝓖 .A)) 𝓜 𝓡 code.env roll.name roll.routine code.calls-undo·lots·roll-lots
