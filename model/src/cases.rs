@@ -1,4 +1,4 @@
-//! The fixed cases as functions, told in words where they fail (01, "A session" and on; 02, (i), (ii)).
+//! The fixed cases as functions, told in words where they fail (01, "A session" and on; 02, (i) to (iii)).
 
 use crate::call::{Answer, Call};
 use crate::check::{Checked, Checks, Outcome};
@@ -12,7 +12,7 @@ pub type Told = Result<(), String>;
 pub type Case = (&'static str, fn() -> Told);
 
 /// All fixed cases by name.
-pub const CASES: [Case; 29] = [
+pub const CASES: [Case; 35] = [
     ("worked session", worked_session),
     ("cases 1 to 4", cases_1_to_4),
     ("cases 5 to 8", cases_5_to_8),
@@ -42,6 +42,12 @@ pub const CASES: [Case; 29] = [
     ("purge of an own clearing", purge_own_clearing),
     ("rollback", rollback),
     ("gap", gap),
+    ("total: low bits", total_low_bits),
+    ("total: open loads", total_open_loads),
+    ("total: by a rollback", total_by_rollback),
+    ("total: clearings", total_clearings),
+    ("total: purge", total_purge),
+    ("total: spoilt", total_spoilt),
 ];
 
 /// Runs session lines, parted by `;`, with every check, and compares the answers.
@@ -472,4 +478,178 @@ fn gap() -> Told {
         same(line, session.answer(line.as_bytes()).as_str(), expected)?;
     }
     same("rows", session.store.manager.partitions.at[0].rows, 0)
+}
+
+/// Runs session lines with every check: each with its answer and lot 0's total after it.
+fn totals(lines: &[(&str, &str, u64)]) -> Result<Checked, String> {
+    let mut checked = Checked::new(Store::new(1), 1, Checks::ALL);
+    for &(line, expected, total) in lines {
+        let call = parse(line.as_bytes()).ok_or("no call")?;
+        let outcome = checked.call(&call)?;
+        same(line, print(&call, &outcome.answer, &checked.store, &outcome.bitmap).as_str(), expected)?;
+        same(&format!("total after {line}"), checked.store.manager.totals[0], total)?;
+    }
+    Ok(checked)
+}
+
+fn total_low_bits() -> Told {
+    totals(&[("B", "B 0 1", 0), ("A 1 0 4294967301", "A 0 1", 0), ("C 1", "C 0 1 0", 5)])?;
+    totals(&[
+        ("B", "B 0 1", 0),
+        ("A 1 0 4294967295 4294967296 18446744073709551615 0", "A 0 4", 0),
+        ("C 1", "C 0 1 0", 8_589_934_590),
+        ("B", "B 0 2", 8_589_934_590),
+        ("A 2 0 18446744069414584321", "A 0 5", 8_589_934_590),
+        ("C 2", "C 0 2 0", 8_589_934_591),
+    ])?;
+    // The greatest total, in every lot; making new sets all to 0.
+    let mut checked = totals(&[("B", "B 0 1", 0)])?;
+    for partition in 0..8 {
+        checked.call(&Call::Append { epoch: 1, partition, rows: vec![u64::MAX; 512] })?;
+    }
+    same("before", checked.store.manager.totals, [0; 8])?;
+    checked.call(&Call::Commit { epoch: 1 })?;
+    same("greatest", checked.store.manager.totals, [2_199_023_255_040; 8])?;
+    checked.call(&Call::New { start: 7 })?;
+    same("made new", checked.store.manager.totals, [0; 8])
+}
+
+fn total_open_loads() -> Told {
+    // Neither the rows nor the clearings of an open load count, and those of a waiting one count when LCE reaches it.
+    totals(&[
+        ("B", "B 0 1", 0),
+        ("A 1 0 1", "A 0 1", 0),
+        ("B", "B 0 2", 0),
+        ("A 2 0 20", "A 0 2", 0),
+        ("B", "B 0 3", 0),
+        ("A 3 0 300", "A 0 3", 0),
+        ("C 1", "C 0 1 2", 1),
+        ("A 2 0 40", "A 0 4", 1),
+        ("D 2 0", "D 0 5", 1),
+        ("A 2 0 50", "A 0 5", 1),
+        ("C 3", "C 0 1 2", 1),
+        ("R 0", "R 0 1", 1),
+        ("S p1 0", "S 0 1", 1),
+        ("C 2", "C 0 3 0", 350),
+        ("S p1 0", "S 0 1", 350),
+    ])
+    .map(|_| ())
+}
+
+fn total_by_rollback() -> Told {
+    totals(&[
+        ("B", "B 0 1", 0),
+        ("B", "B 0 2", 0),
+        ("A 1 0 1", "A 0 1", 0),
+        ("A 2 0 2", "A 0 2", 0),
+        ("C 2", "C 0 0 1", 0),
+        ("X 1", "X 0 2 0", 2),
+        ("B", "B 0 3", 2),
+        ("A 3 0 4", "A 0 2", 2),
+        ("X 3", "X 0 2 0", 2),
+    ])?;
+    // With a clearing that waits it falls, and in a lot without an entry of the load too.
+    totals(&[
+        ("B", "B 0 1", 0),
+        ("A 1 0 5", "A 0 1", 0),
+        ("C 1", "C 0 1 0", 5),
+        ("B", "B 0 2", 5),
+        ("B", "B 0 3", 5),
+        ("D 3 0", "D 0 2", 5),
+        ("C 3", "C 0 1 2", 5),
+        ("X 2", "X 0 3 0", 0),
+    ])
+    .map(|_| ())
+}
+
+fn total_clearings() -> Told {
+    totals(&[
+        ("B", "B 0 1", 0),
+        ("A 1 0 5", "A 0 1", 0),
+        ("C 1", "C 0 1 0", 5),
+        ("B", "B 0 2", 5),
+        ("A 2 0 6", "A 0 2", 5),
+        ("D 2 0", "D 0 3", 5),
+        ("A 2 0 7", "A 0 3", 5),
+        ("C 2", "C 0 2 0", 7),
+        ("B", "B 0 3", 7),
+        ("D 3 0", "D 0 5", 7),
+        ("X 3", "X 0 2 0", 7),
+        ("B", "B 0 4", 7),
+        ("D 4 0", "D 0 5", 7),
+        ("C 4", "C 0 4 0", 0),
+    ])?;
+    // A row of an earlier epoch that stands after the clearing.
+    totals(&[
+        ("B", "B 0 1", 0),
+        ("B", "B 0 2", 0),
+        ("D 2 0", "D 0 1", 0),
+        ("A 1 0 7", "A 0 1", 0),
+        ("C 1", "C 0 1 2", 7),
+        ("C 2", "C 0 2 0", 0),
+    ])
+    .map(|_| ())
+}
+
+fn total_purge() -> Told {
+    totals(&[
+        ("B", "B 0 1", 0),
+        ("A 1 0 5", "A 0 1", 0),
+        ("C 1", "C 0 1 0", 5),
+        ("B", "B 0 2", 5),
+        ("D 2 0", "D 0 2", 5),
+        ("A 2 0 6", "A 0 2", 5),
+        ("C 2", "C 0 2 0", 6),
+        ("B", "B 0 3", 6),
+        ("A 3 0 8", "A 0 3", 6),
+        ("C 3", "C 0 3 0", 14),
+        ("L 2", "L 0 2", 14),
+        ("P 0", "P 0 1", 14),
+        ("P 0", "P 0 0", 14),
+        ("L 0", "L 0 3", 14),
+        ("P 0", "P 0 1", 14),
+    ])
+    .map(|_| ())
+}
+
+fn total_spoilt() -> Told {
+    // Lot 0 has two shown rows, one of an open load, and a word beyond; in lot 1 a clearing hides a row.
+    let made = totals(&[
+        ("B", "B 0 1", 0),
+        ("A 1 0 10 4294967307", "A 0 2", 0),
+        ("A 1 1 12", "A 0 1", 0),
+        ("D 1 1", "D 0 2", 0),
+        ("C 1", "C 0 1 0", 21),
+        ("B", "B 0 2", 21),
+        ("A 2 0 13", "A 0 3", 21),
+    ])?
+    .store;
+    let spoilt = |what: &str, number: u64, spoil: &dyn Fn(&mut Store)| {
+        let mut store = made.clone();
+        spoil(&mut store);
+        let answer = Checked::without_ledger(store).call(&Call::Begin)?.answer;
+        same(what, answer.map_or_else(|refusal| refusal.number(), |_| 0), number)
+    };
+    for p in 0..8 {
+        for off in [1, u64::MAX, 1 << 32, 1 << 63] {
+            spoilt("a total", 5, &|s| s.manager.totals[p] = s.manager.totals[p].wrapping_add(off))?;
+        }
+        spoilt("the greatest word", 5, &|s| s.manager.totals[p] = u64::MAX)?;
+    }
+    spoilt("two totals swapped", 5, &|s| s.manager.totals.swap(0, 7))?;
+    spoilt("two totals of 0 swapped", 0, &|s| s.manager.totals.swap(1, 7))?;
+    for bit in 0..64 {
+        let number = if bit < 32 { 5 } else { 0 };
+        spoilt("a shown row", number, &|s| s.rows[0] ^= 1 << bit)?;
+        spoilt("another shown row", number, &|s| s.rows[1] ^= 1 << bit)?;
+        spoilt("a row of an open load", 0, &|s| s.rows[2] ^= 1 << bit)?;
+        spoilt("a word beyond the rows", 0, &|s| s.rows[3] ^= 1 << bit)?;
+        spoilt("a row that is hidden", 0, &|s| s.rows[512] ^= 1 << bit)?;
+    }
+    spoilt("two shown rows swapped", 0, &|s| s.rows.swap(0, 1))?;
+    spoilt("a shown row and one of an open load swapped", 5, &|s| s.rows.swap(0, 2))?;
+    spoilt("two rows that weigh as much together", 0, &|s| {
+        s.rows[0] += 1;
+        s.rows[1] -= 1;
+    })
 }

@@ -56,6 +56,10 @@ pub enum Edge {
     OwnClearHidesOwnRow,
     OwnClearHidesEarlierRow,
     OwnClearShowsRowAfter,
+    CommitMovedTotal,
+    RollbackMovedTotal,
+    ClearingLoweredTotal,
+    PurgeKeptTotal,
     PageAtLse,
     PageBelowLce,
     LseStays,
@@ -64,7 +68,7 @@ pub enum Edge {
 }
 
 impl Edge {
-    pub const ALL: [Edge; 45] = [
+    pub const ALL: [Edge; 49] = [
         Edge::PurgeSkipped,
         Edge::PurgeRewritten,
         Edge::PurgeJoined,
@@ -105,6 +109,10 @@ impl Edge {
         Edge::OwnClearHidesOwnRow,
         Edge::OwnClearHidesEarlierRow,
         Edge::OwnClearShowsRowAfter,
+        Edge::CommitMovedTotal,
+        Edge::RollbackMovedTotal,
+        Edge::ClearingLoweredTotal,
+        Edge::PurgeKeptTotal,
         Edge::PageAtLse,
         Edge::PageBelowLce,
         Edge::LseStays,
@@ -313,6 +321,10 @@ impl Checked {
             // A refusal left the store and the ledger as they were: the last comparison still stands.
             if number == 0 {
                 self.compare_oldest(call, &answer).map_err(|what| format!("{call:?}: {what}"))?;
+                if self.store.manager.totals != self.ledger.totals() {
+                    let (totals, ought) = (self.store.manager.totals, self.ledger.totals());
+                    return told(format!("totals {totals:?}, the ledger {ought:?}"));
+                }
                 self.compare_with_ledger().map_err(|what| format!("{call:?}: {what}"))?;
             }
         }
@@ -440,6 +452,8 @@ impl Checked {
             _ => 0,
         };
         let (old, new) = (&before.manager, &store.manager);
+        let lowered = old.totals.iter().zip(&new.totals).any(|(was, is)| is < was);
+        coverage.meet(Edge::ClearingLoweredTotal, lowered && !matches!(call, Call::New { .. }));
         match call {
             Call::Append { partition, rows, .. } if *partition < 8 => {
                 let (was, is) =
@@ -468,6 +482,7 @@ impl Checked {
                 coverage.meet(Edge::LastEpoch, accepted && old.clock.ec == LAST_EPOCH);
             }
             Call::Commit { epoch } if accepted => {
+                coverage.meet(Edge::CommitMovedTotal, new.totals != old.totals);
                 coverage.meet(Edge::CommitWaits, new.rw.count == old.rw.count);
                 coverage.meet(Edge::LcePassedWaiting, new.rw.count + 1 < old.rw.count);
                 coverage.meet(Edge::CommitNamesEarlier, 0 < oldest && oldest < *epoch);
@@ -489,6 +504,7 @@ impl Checked {
                 }
                 coverage.meet(Edge::RollbackTouchedNone, touched == 0);
                 coverage.meet(Edge::RollbackTouchedMany, touched > 1);
+                coverage.meet(Edge::RollbackMovedTotal, new.totals != old.totals);
                 coverage.meet(Edge::RollbackMovedLce, new.clock.lce > old.clock.lce);
                 coverage.meet(Edge::RollbackNamesOne, oldest > 0);
                 coverage.meet(Edge::RollbackNamesNone, oldest == 0);
@@ -516,6 +532,7 @@ impl Checked {
                     return;
                 };
                 coverage.meet(Edge::PurgeRewritten, true);
+                coverage.meet(Edge::PurgeKeptTotal, old.totals[p] > 0 && new.totals[p] == old.totals[p]);
                 let old_entries = entries_of(was, &before.entries);
                 let is_row = |item: &&Item| matches!(item, Item::Row { .. });
                 let went = old_items.iter().filter(is_row).count() - left.iter().filter(is_row).count();

@@ -1,4 +1,4 @@
-//! A second reading of calls: refusals as a table, row by row (01, "The books", "Lots", refusals; 02, (i), (ii)).
+//! A second reading of calls: refusals as a table, row by row (01, "The books", "Lots", refusals; 02, (i) to (iii)).
 //!
 //! It uses the shape of the books, the test of *sound*, and nothing else of the store's code, so that the two
 //! can be compared word for word.
@@ -30,7 +30,7 @@ pub fn due(store: &Store, call: &Call) -> Vec<u64> {
     if !well_formed(store) {
         return vec![5];
     }
-    let Manager { clock, rw, ro, partitions } = &store.manager;
+    let Manager { clock, rw, ro, partitions, .. } = &store.manager;
     let no_txn =
         |epoch: u64| !(0..rw.count as usize).any(|i| rw.at[i].epoch == epoch && rw.at[i].waiting == 0);
     let no_ro = |ticket: u64| !(0..ro.count as usize).any(|i| ro.at[i].ticket == ticket);
@@ -203,8 +203,12 @@ fn bits(store: &Store, reader: Reader, p: usize) -> Vec<bool> {
             (ro_txn.epoch, &[])
         }
     };
+    shown(&items(store, p), last, unseen)
+}
+
+/// Whether each row is shown to who sees the epochs up to `last` but for `unseen`.
+fn shown(items: &[Item], last: u64, unseen: &[u64]) -> Vec<bool> {
     let seen = |epoch: u64| epoch <= last && !unseen.contains(&epoch);
-    let items = items(store, p);
     let clearings = items.iter().filter(|item| matches!(item, Item::Clearing { .. })).map(Item::epoch);
     let greatest = clearings.filter(|&epoch| seen(epoch)).max().unwrap_or(0);
     // From the back: the clearings already passed stand after the row.
@@ -225,12 +229,29 @@ fn bits(store: &Store, reader: Reader, p: usize) -> Vec<bool> {
     bits
 }
 
+/// The totals worked out afresh: the low 32 bits of each row that a page at LCE would show.
+fn totals(store: &Store) -> [u64; 8] {
+    std::array::from_fn(|p| {
+        let items = items(store, p);
+        let mut shown = shown(&items, store.manager.clock.lce, &[]).into_iter();
+        let mut total = 0;
+        for item in &items {
+            if let Item::Row { word, .. } = item {
+                total += if shown.next() == Some(true) { word % (1 << 32) } else { 0 };
+            }
+        }
+        total
+    })
+}
+
 /// Makes the store what the call must leave and the bitmap what it must hold. Answers number and values.
 pub fn step(store: &mut Store, call: &Call, bitmap: &mut [u8]) -> (u64, Answer) {
     if let Some(&number) = due(store, call).first() {
         return (number, Answer::Nothing);
     }
-    (0, accepted(store, call, bitmap))
+    let answer = accepted(store, call, bitmap);
+    store.manager.totals = totals(store);
+    (0, answer)
 }
 
 fn accepted(store: &mut Store, call: &Call, bitmap: &mut [u8]) -> Answer {

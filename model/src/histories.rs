@@ -320,7 +320,7 @@ impl Calls {
             9 if self.wrong() => self.rng.within(513, 2000),
             _ => self.rng.within(1, self.profile.batch),
         };
-        let rows = (0..length).map(|_| self.rng.word()).collect();
+        let rows = (0..length).map(|_| self.rng.row()).collect();
         Call::Append { epoch, partition, rows }
     }
 
@@ -424,7 +424,7 @@ impl Calls {
 
 /// Puts any words into the lent areas.
 pub fn fill_areas(store: &mut Store, rng: &mut Rng) {
-    store.rows = (0..AREAS * AREA_ROWS).map(|_| rng.any()).collect();
+    store.rows = (0..AREAS * AREA_ROWS).map(|_| rng.row()).collect();
     store.entries = (0..AREAS * AREA_ENTRIES)
         .map(|_| Entry { epoch: rng.word(), end: rng.word(), mark: rng.below(4) })
         .collect();

@@ -1,4 +1,4 @@
-//! The ledger of demand 3, which shares no code with the store (01, "The ledger of demand 3"; 02, (ii)).
+//! The ledger of demand 3, which shares no code with the store (01, "The ledger of demand 3"; 02, (ii), (iii)).
 //!
 //! It is fed each call's arguments and number, begin's epoch and open's ticket. Number 0 means accepted.
 
@@ -87,8 +87,12 @@ impl Ledger {
             return;
         }
         let epoch = if epoch == 0 { self.newest_settled() } else { epoch };
+        self.ro.insert(ticket, self.committed_up_to(epoch));
+    }
+
+    fn committed_up_to(&self, epoch: u64) -> BTreeSet<u64> {
         let committed = self.rw.iter().filter(|(_, line)| line.state == State::Committed);
-        self.ro.insert(ticket, committed.map(|(&j, _)| j).filter(|&j| j <= epoch).collect());
+        committed.map(|(&j, _)| j).filter(|&j| j <= epoch).collect()
     }
 
     pub fn close(&mut self, ticket: u64, number: u64) {
@@ -141,6 +145,16 @@ impl Ledger {
     /// What the ledger shows an open page of a lot, put into `shown`.
     pub fn show_ro(&self, ticket: u64, partition: usize, shown: &mut Vec<u64>) {
         self.show(&self.ro[&ticket], partition, shown);
+    }
+
+    /// The low 32 bits of what the ledger would show a page opened now at 0, added up for each lot.
+    pub fn totals(&self) -> [u64; 8] {
+        let snapshot = self.committed_up_to(self.newest_settled());
+        let mut shown = Vec::new();
+        [0, 1, 2, 3, 4, 5, 6, 7].map(|partition| {
+            self.show(&snapshot, partition, &mut shown);
+            shown.iter().map(|row| row & 0xffff_ffff).sum()
+        })
     }
 
     fn show(&self, snapshot: &BTreeSet<u64>, partition: usize, shown: &mut Vec<u64>) {

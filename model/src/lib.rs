@@ -1,4 +1,4 @@
-//! A plain model of the store of document 01, with requests (i) and (ii) of document 02: its limits (01, "Words of
+//! A plain model of the store of document 01, with requests (i) to (iii) of document 02: its limits (01, "Words of
 //! this store", "Lots", refusals).
 //!
 //! The modules, by subject:

@@ -41,6 +41,18 @@ impl Rng {
         from[self.below(from.len() as u64) as usize]
     }
 
+    /// A row: each of its halves small, greatest or all but greatest, or any.
+    pub fn row(&mut self) -> u64 {
+        let half = |bits: u32| match bits >> 30 {
+            0 => bits & 3,
+            1 => bits % 100_000,
+            2 => u32::MAX - (bits & 3),
+            _ => bits,
+        };
+        let any = self.any();
+        u64::from(half((any >> 32) as u32)) << 32 | u64::from(half(any as u32))
+    }
+
     /// A word of any size: small, near a power of two, or any.
     pub fn word(&mut self) -> u64 {
         match self.below(4) {

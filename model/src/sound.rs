@@ -1,4 +1,4 @@
-//! What a well-formed store is, clause by clause (01, "Refusals that come from the state": *Sound*).
+//! What a well-formed store is, clause by clause (01, "Refusals that come from the state": *Sound*; 02, (iii)).
 
 use crate::partition::{Entry, CLEARING, ROWS};
 use crate::store::Store;
@@ -23,7 +23,7 @@ pub fn broken_clauses(store: &Store) -> Vec<&'static str> {
 pub type Clause = (&'static str, fn(&Store) -> bool);
 
 /// Each clause stands by itself: it never fails only because another one does, and never panics.
-pub const CLAUSES: [Clause; 21] = [
+pub const CLAUSES: [Clause; 22] = [
     ("lengths", lengths_right),
     ("clock", clock),
     ("rw count", rw_count),
@@ -45,6 +45,7 @@ pub const CLAUSES: [Clause; 21] = [
     ("last end", last_end),
     ("entries", entry_epochs_and_marks),
     ("neighbours", neighbours),
+    ("totals", totals),
 ];
 
 // 1 <= EC <= 2,147,483,648 and EC > LCE >= LSE.
@@ -202,6 +203,33 @@ fn neighbours(store: &Store) -> bool {
             .windows(2)
             .all(|pair| !(pair[0].mark == ROWS && pair[1].mark == ROWS && pair[0].epoch == pair[1].epoch))
     })
+}
+
+// Each total is the sum of the low 32 bits of the rows that a page at LCE would show.
+fn totals(store: &Store) -> bool {
+    (0..PARTITIONS).all(|p| worked_out(store, p).is_none_or(|sum| sum == store.manager.totals[p]))
+}
+
+/// The total of a lot worked out afresh; none where its entries do not share out rows that are there.
+fn worked_out(store: &Store, p: usize) -> Option<u64> {
+    let lce = store.manager.clock.lce;
+    let entries = used_entries(store, p);
+    let area =
+        store.rows.chunks(AREA_ROWS).nth(store.manager.partitions.at[p].area.min(AREAS as u64) as usize)?;
+    let clearings = entries.iter().filter(|entry| entry.mark == CLEARING && entry.epoch <= lce);
+    // A page at LCE is shown nothing older than the newest clearing, and of its load what stands after it.
+    let oldest = clearings.map(|clearing| clearing.epoch).max().unwrap_or(0);
+    let mut sum = 0;
+    let mut start = 0;
+    for (at, entry) in entries.iter().enumerate() {
+        let rows = area.get(start..entry.end as usize)?;
+        let cleared = entries[at..].iter().any(|e| e.mark == CLEARING && e.epoch == entry.epoch);
+        if (oldest..=lce).contains(&entry.epoch) && !cleared {
+            sum += rows.iter().map(|&row| u64::from(row as u32)).sum::<u64>();
+        }
+        start = entry.end as usize;
+    }
+    Some(sum)
 }
 
 /// The used entries of a lot; none where its area or count, or the lent length, is out of range.

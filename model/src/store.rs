@@ -1,12 +1,12 @@
-//! The store and its calls, each with its refusals in 01's order (01, "The books", "Lots" and the refusals).
+//! The store and its calls, each with its refusals in 01's order (01, "The books", "Lots", refusals; 02, (i), (iii)).
 
 use crate::clock::Clock;
-use crate::partition::{entries_of, extends_last, Areas, Entry, Partitions};
+use crate::partition::{entries_of, extends_last, rows_of, Areas, Entry, Partitions};
 use crate::refusal::Refusal;
 use crate::sound::{lengths_right, well_formed};
 use crate::txn::{blocked, greatest_free_target, RoTable, RwTable};
 use crate::variant::{wrong, Variant};
-use crate::visible::{bytes_needed, write_bits, Reader, View};
+use crate::visible::{bytes_needed, total, write_bits, Reader, View};
 use crate::{AREAS, AREA_ENTRIES, AREA_ROWS, EPOCH_END, LAST_EPOCH, PARTITIONS, TICKET_END, TXNS};
 
 /// The books.
@@ -17,6 +17,8 @@ pub struct Manager {
     pub rw: RwTable,
     pub ro: RoTable,
     pub partitions: Partitions,
+    /// The milligrams of each lot that a page at LCE would show (02, (iii)).
+    pub totals: [u64; PARTITIONS],
 }
 
 /// The books with the two lent areas. The lengths may be wrong: then every call is refused by 5.
@@ -63,6 +65,7 @@ impl Manager {
             rw: RwTable::default(),
             ro: RoTable { next: 1, ..RoTable::default() },
             partitions: Partitions::empty(),
+            totals: [0; PARTITIONS],
         }
     }
 
@@ -83,6 +86,7 @@ impl Manager {
             words.extend([partition.area, partition.rows, partition.entries]);
         }
         words.push(self.partitions.spare);
+        words.extend(self.totals);
         words
     }
 
@@ -109,6 +113,7 @@ impl Manager {
             (partition.area, partition.rows, partition.entries) = (next(), next(), next());
         }
         books.partitions.spare = next();
+        books.totals.fill_with(&mut next);
         Some(books)
     }
 }
@@ -206,6 +211,9 @@ impl Store {
         if wrong(Variant::DepsForgetClosed) {
             self.manager.rw.forget(epoch);
         }
+        if !wrong(Variant::CommitKeepsTotal) {
+            self.settle_totals();
+        }
         Ok(Closed { lce: self.manager.clock.lce, oldest: before.unwrap_or(oldest) })
     }
 
@@ -222,6 +230,9 @@ impl Store {
             self.manager.rw.settle(&mut self.manager.clock)
         };
         let oldest = if wrong(Variant::OldestOnlyByCommit) { 0 } else { oldest };
+        if !wrong(Variant::RollbackKeepsTotal) {
+            self.settle_totals();
+        }
         Ok(Closed { lce: self.manager.clock.lce, oldest: before.unwrap_or(oldest) })
     }
 
@@ -274,6 +285,9 @@ impl Store {
         let clock = self.manager.clock;
         let limit = if wrong(Variant::PurgeAtLce) { clock.lce } else { clock.lse };
         let rewritten = self.areas().purge(p, limit);
+        if wrong(Variant::PurgeDropsTotal) && rewritten {
+            self.manager.totals[p] = 0;
+        }
         let partition = self.manager.partitions.at[p];
         let live = LivePart { place: partition.area * AREA_ROWS as u64, count: partition.rows };
         Ok(Purged { rewritten, live })
@@ -294,6 +308,23 @@ impl Store {
         let entries = entries_of(&partition, &self.entries);
         let ones = write_bits(&view, entries, partition.rows, bitmap);
         Ok(Scanned { rows: partition.rows, ones })
+    }
+
+    /// Makes the total of each lot what a page at LCE would show. Only commit and rollback move it: no other call
+    /// moves LCE, or changes what such a page would show.
+    pub fn settle_totals(&mut self) {
+        let Manager { clock, partitions, totals, .. } = &mut self.manager;
+        let epoch = if wrong(Variant::TotalAtLse) {
+            clock.lse
+        } else if wrong(Variant::TotalCountsOpen) {
+            clock.ec
+        } else {
+            clock.lce
+        };
+        for (settled, partition) in totals.iter_mut().zip(&partitions.at) {
+            let (entries, rows) = (entries_of(partition, &self.entries), rows_of(partition, &self.rows));
+            *settled = total(&View::Ro(epoch), entries, rows);
+        }
     }
 
     fn refuse_ill_formed(&self) -> Result<(), Refusal> {

@@ -1,10 +1,11 @@
-//! Random well-formed stores that no history made, and stores spoilt in one field (01, refusals: *Sound*).
+//! Random well-formed stores that no history made, and stores spoilt in one field (01, *Sound*; 02, (iii)).
 
 use crate::histories::fill_areas;
-use crate::partition::{Entry, CLEARING, ROWS};
+use crate::partition::{entries_of, Entry, CLEARING, ROWS};
 use crate::random::Rng;
 use crate::store::Store;
 use crate::txn::{OPEN, WAITING};
+use crate::visible::{shown, View};
 use crate::{AREAS, AREA_ENTRIES, AREA_ROWS, DEPS, EPOCH_END, PARTITIONS, TICKET_END, TXNS};
 use std::collections::BTreeSet;
 
@@ -20,6 +21,7 @@ pub fn random_store(rng: &mut Rng) -> Store {
     for p in 0..PARTITIONS {
         random_partition(&mut store, p, rng);
     }
+    store.settle_totals();
     store
 }
 
@@ -185,10 +187,10 @@ fn random_partition(store: &mut Store, p: usize, rng: &mut Rng) {
 }
 
 /// The ways to spoil a store: the clause that must then be broken, and what is done. Each changes one field
-/// (or one length) and answers whether the store had the place that it needs.
+/// (or one length, or swaps two totals) and answers whether the store had the place that it needs.
 pub type Spoil = (&'static str, &'static str, fn(&mut Store, &mut Rng) -> bool);
 
-pub const SPOILS: [Spoil; 49] = [
+pub const SPOILS: [Spoil; 53] = [
     ("lengths", "one row word less", |s, _| s.rows.pop().is_some()),
     ("lengths", "one row word more", |s, rng| {
         s.rows.push(rng.word());
@@ -448,12 +450,100 @@ pub const SPOILS: [Spoil; 49] = [
             }
         })
     }),
+    ("totals", "a total that is off", |s, rng| {
+        let total = &mut s.manager.totals[rng.below(PARTITIONS as u64) as usize];
+        let off = rng.pick(&[1, u64::MAX, 1 << 31, 1 << 32, 1 << 63]);
+        put(total, total.wrapping_add(off))
+    }),
+    ("totals", "a total of 0 or the greatest word", |s, rng| {
+        let total = &mut s.manager.totals[rng.below(PARTITIONS as u64) as usize];
+        put(total, rng.pick(&[0, u64::MAX]))
+    }),
+    ("totals", "two totals swapped", |s, rng| {
+        let [one, other] = [(); 2].map(|()| rng.below(PARTITIONS as u64) as usize);
+        s.manager.totals.swap(one, other);
+        s.manager.totals[one] != s.manager.totals[other]
+    }),
+    ("totals", LOW_BITS, |s, rng| {
+        some_row(s, rng, RowKind::Shown).is_some_and(|at| flip(&mut s.rows[at], rng.below(32)))
+    }),
 ];
+
+/// The way to spoil a store by a row: in its low bits, where a page at LCE would show it.
+pub const LOW_BITS: &str = "the low bits of a shown row";
+
+/// Ways to change rows that leave a store well-formed, as no total changes by them.
+pub type Change = (&'static str, fn(&mut Store, &mut Rng) -> bool);
+
+pub const CHANGES: [Change; 5] = [
+    ("the high bits of a shown row", |s, rng| {
+        some_row(s, rng, RowKind::Shown).is_some_and(|at| flip(&mut s.rows[at], rng.within(32, 63)))
+    }),
+    ("a row of an open or waiting load", |s, rng| {
+        some_row(s, rng, RowKind::AboveLce).is_some_and(|at| put(&mut s.rows[at], rng.row()))
+    }),
+    ("a row that a clearing hides", |s, rng| {
+        some_row(s, rng, RowKind::Hidden).is_some_and(|at| put(&mut s.rows[at], rng.row()))
+    }),
+    ("a word beyond the counts", |s, rng| {
+        let part = &s.manager.partitions.at[rng.below(PARTITIONS as u64) as usize];
+        part.rows < AREA_ROWS as u64 && {
+            let at = part.area * AREA_ROWS as u64 + rng.within(part.rows, AREA_ROWS as u64 - 1);
+            put(&mut s.rows[at as usize], rng.row())
+        }
+    }),
+    ("two shown rows of one lot swapped", |s, rng| {
+        let places = row_places(s, rng.below(PARTITIONS as u64) as usize, RowKind::Shown);
+        !places.is_empty() && {
+            let [one, other] = [(); 2].map(|()| rng.pick(&places));
+            s.rows.swap(one, other);
+            s.rows[one] != s.rows[other]
+        }
+    }),
+];
+
+/// What a page at LCE makes of a row.
+#[derive(Clone, Copy, Debug, PartialEq, Eq)]
+pub enum RowKind {
+    Shown,
+    Hidden,
+    AboveLce,
+}
+
+/// The places, in the lent rows, of a lot's rows of that kind.
+pub fn row_places(store: &Store, p: usize, kind: RowKind) -> Vec<usize> {
+    let part = &store.manager.partitions.at[p];
+    let entries = entries_of(part, &store.entries);
+    let lce = store.manager.clock.lce;
+    let mut places = Vec::new();
+    let mut start = 0;
+    for (at, entry) in entries.iter().enumerate() {
+        let found = match entry.epoch {
+            epoch if epoch > lce => RowKind::AboveLce,
+            _ if shown(&View::Ro(lce), entries, at) => RowKind::Shown,
+            _ => RowKind::Hidden,
+        };
+        if found == kind {
+            places.extend((start..entry.end).map(|row| part.area as usize * AREA_ROWS + row as usize));
+        }
+        start = entry.end;
+    }
+    places
+}
+
+fn some_row(store: &Store, rng: &mut Rng, kind: RowKind) -> Option<usize> {
+    let places: Vec<usize> = (0..PARTITIONS).flat_map(|p| row_places(store, p, kind)).collect();
+    (!places.is_empty()).then(|| rng.pick(&places))
+}
 
 fn put(field: &mut u64, word: u64) -> bool {
     let changed = *field != word;
     *field = word;
     changed
+}
+
+fn flip(row: &mut u64, bit: u64) -> bool {
+    put(row, *row ^ 1 << bit)
 }
 
 fn some_rw(store: &Store, rng: &mut Rng) -> Option<usize> {
@@ -492,4 +582,16 @@ pub fn spoilt_store(rng: &mut Rng) -> (Store, usize) {
 pub fn spoilt_by(at: usize, rng: &mut Rng) -> Option<Store> {
     let mut store = random_store(rng);
     (SPOILS[at].2)(&mut store, rng).then_some(store)
+}
+
+/// A well-formed store in which rows were changed so that it is still one, and the place in `CHANGES` of what was
+/// done.
+pub fn changed_store(rng: &mut Rng) -> (Store, usize) {
+    loop {
+        let at = rng.below(CHANGES.len() as u64) as usize;
+        let mut store = random_store(rng);
+        if (CHANGES[at].1)(&mut store, rng) {
+            return (store, at);
+        }
+    }
 }

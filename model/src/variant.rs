@@ -1,4 +1,4 @@
-//! Wrong readings, one changed line each, for the tests (01, "Where hands go wrong", "Agreed"; 02, (i), (ii)).
+//! Wrong readings, one changed line each, for the tests (01, "Where hands go wrong", "Agreed"; 02, (i) to (iii)).
 //!
 //! Outside this crate's own unit tests `wrong` is always false, so the store has none of them.
 
@@ -70,10 +70,24 @@ pub enum Variant {
     OldestMayWait,
     /// The newest open load is named.
     NewestNamed,
+    /// A total adds whole words.
+    TotalOfWholeWords,
+    /// A total is that of a page at LSE.
+    TotalAtLse,
+    /// A total counts the rows of open and waiting loads.
+    TotalCountsOpen,
+    /// A total counts rows that a clearing hides.
+    TotalCountsHidden,
+    /// A commit leaves the totals.
+    CommitKeepsTotal,
+    /// A rollback leaves the totals.
+    RollbackKeepsTotal,
+    /// A purge that rewrites sets the total to 0.
+    PurgeDropsTotal,
 }
 
 impl Variant {
-    pub const ALL: [Variant; 33] = [
+    pub const ALL: [Variant; 40] = [
         Variant::PageAppliesBelowOnly,
         Variant::RollbackKeepsLce,
         Variant::LseByOpenEpochs,
@@ -107,6 +121,13 @@ impl Variant {
         Variant::OldestOnlyByCommit,
         Variant::OldestMayWait,
         Variant::NewestNamed,
+        Variant::TotalOfWholeWords,
+        Variant::TotalAtLse,
+        Variant::TotalCountsOpen,
+        Variant::TotalCountsHidden,
+        Variant::CommitKeepsTotal,
+        Variant::RollbackKeepsTotal,
+        Variant::PurgeDropsTotal,
     ];
 }
 

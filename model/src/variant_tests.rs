@@ -1,4 +1,4 @@
-//! Each wrong reading must be told from the right one (01, "Where hands go wrong" and "Agreed"; 02, (i), (ii)).
+//! Each wrong reading must be told from the right one (01, "Where hands go wrong" and "Agreed"; 02, (i) to (iii)).
 
 use crate::cases::CASES;
 use crate::check::{run_history, Checks};
@@ -87,6 +87,13 @@ fn each_named_hand_is_told_by_its_own_case() {
         (Variant::OwnClearHidesRowsAfter, "own clearing"),
         (Variant::OwnClearHidesOwnOnly, "own clearing"),
         (Variant::LoadAppliesUnseenClear, "own clearing: others"),
+        (Variant::TotalOfWholeWords, "total: low bits"),
+        (Variant::TotalAtLse, "total: low bits"),
+        (Variant::CommitKeepsTotal, "total: low bits"),
+        (Variant::TotalCountsOpen, "total: open loads"),
+        (Variant::RollbackKeepsTotal, "total: by a rollback"),
+        (Variant::TotalCountsHidden, "total: clearings"),
+        (Variant::PurgeDropsTotal, "total: purge"),
     ] {
         let (_, case) = CASES.into_iter().find(|(name, _)| *name == named).expect("a case of that name");
         choose(Some(variant));

@@ -1,4 +1,4 @@
-//! Which rows a reader is shown, and the bits of a scan (01, "Who sees a row"; 02, (ii)).
+//! Which rows a reader is shown, the bits of a scan, and what rows weigh (01, "Who sees a row"; 02, (ii), (iii)).
 
 use crate::partition::{Entry, CLEARING};
 use crate::txn::RwTxn;
@@ -63,6 +63,28 @@ pub fn shown(view: &View, entries: &[Entry], at: usize) -> bool {
         }
     }
     true
+}
+
+/// The milligrams of a row: its low 32 bits.
+pub fn milligrams(row: u64) -> u64 {
+    row & 0xffff_ffff
+}
+
+/// The milligrams of the rows that are shown.
+pub fn total(view: &View, entries: &[Entry], rows: &[u64]) -> u64 {
+    let mut total: u64 = 0;
+    let mut start = 0;
+    for (at, entry) in entries.iter().enumerate() {
+        let end = entry.end as usize;
+        if shown(view, entries, at) || wrong(Variant::TotalCountsHidden) && view.sees(entry.epoch) {
+            for &row in &rows[start..end] {
+                let weight = if wrong(Variant::TotalOfWholeWords) { row } else { milligrams(row) };
+                total = total.wrapping_add(weight);
+            }
+        }
+        start = end;
+    }
+    total
 }
 
 /// Bytes of bitmap that so many rows need.

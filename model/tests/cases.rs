@@ -1,4 +1,4 @@
-//! The fixed cases, and the session's line grammar (01, "A session" and on; 02, (i), (ii)).
+//! The fixed cases, and the session's line grammar (01, "A session" and on; 02, (i) to (iii)).
 
 use model::cases::CASES;
 use model::session::{Session, LONGEST_LINE};

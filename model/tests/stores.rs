@@ -1,13 +1,13 @@
-//! Well-formed stores that no history made, and stores spoilt in one field (01, the refusals: *Sound*).
+//! Well-formed stores that no history made, and stores spoilt in one field (01, the refusals: *Sound*; 02, (iii)).
 
 use model::call::{Call, CALL_NAMES};
 use model::check::{Checked, Coverage};
 use model::histories::{Calls, PROFILES};
-use model::partition::CLEARING;
+use model::partition::{Entry, CLEARING};
 use model::random::Rng;
 use model::sound::{broken_clauses, well_formed};
 use model::store::{Manager, Store};
-use model::stores::{random_store, spoilt_by, SPOILS};
+use model::stores::{changed_store, random_store, row_places, spoilt_by, RowKind, CHANGES, SPOILS};
 use model::visible::Reader;
 
 /// One call of each kind, with arguments that suit the store as far as it has any.
@@ -118,8 +118,56 @@ fn spoilt_stores_are_refused_by_5() {
 }
 
 #[test]
+fn rows_that_no_total_counts_may_be_any() {
+    let mut rng = Rng::new(88);
+    let mut done = [0; CHANGES.len()];
+    while done.iter().any(|&count| count < 100) {
+        let (store, at) = changed_store(&mut rng);
+        done[at] += 1;
+        assert!(sound_again(&store), "{}: {:?}", CHANGES[at].0, broken_clauses(&store));
+        for call in one_of_each(&store) {
+            let outcome = Checked::without_ledger(store.clone()).call(&call);
+            assert_ne!(model::call::number_of(&outcome.unwrap().answer), 5, "{}: {call:?}", CHANGES[at].0);
+        }
+    }
+}
+
+#[test]
+fn each_total_and_each_row_counts_by_itself() {
+    let mut rng = Rng::new(99);
+    let mut met = [0; 3];
+    for round in 0..300 {
+        let mut store = random_store(&mut rng);
+        let all = store.manager.totals;
+        for p in 0..8 {
+            for total in
+                [all[p].wrapping_add(1), all[p].wrapping_sub(1), all[p] ^ 1 << 32, u64::MAX, all[(p + 1) % 8]]
+            {
+                store.manager.totals[p] = total;
+                let broken: &[&str] = if total == all[p] { &[] } else { &["totals"] };
+                assert_eq!(broken_clauses(&store), broken, "round {round}, lot {p}");
+                store.manager.totals[p] = all[p];
+            }
+            for (kind, met) in [RowKind::Shown, RowKind::Hidden, RowKind::AboveLce].into_iter().zip(&mut met)
+            {
+                for at in row_places(&store, p, kind) {
+                    *met += 1;
+                    let bit = rng.below(64);
+                    let counts = kind == RowKind::Shown && bit < 32;
+                    store.rows[at] ^= 1 << bit;
+                    let broken: &[&str] = if counts { &["totals"] } else { &[] };
+                    assert_eq!(broken_clauses(&store), broken, "round {round}, row {at}, bit {bit}");
+                    store.rows[at] ^= 1 << bit;
+                }
+            }
+        }
+    }
+    assert!(met.iter().all(|&count| count > 5_000), "{met:?} rows shown, hidden, above LCE");
+}
+
+#[test]
 fn books_to_words_and_back() {
-    let count = 3 + (32 * 34 + 1) + (32 * 2 + 2) + (8 * 3 + 1);
+    let count = 3 + (32 * 34 + 1) + (32 * 2 + 2) + (8 * 3 + 1) + 8;
     let words: Vec<u64> = (1..=count).collect();
     let books = Manager::from_words(&words).expect("as many as there are");
     assert_eq!(books.words(), words);
@@ -129,6 +177,7 @@ fn books_to_words_and_back() {
         (3, 37, 1092, 1158)
     );
     assert_eq!((books.partitions.at[0].area, books.partitions.spare), (1159, 1183));
+    assert_eq!((books.totals[0], books.totals[7]), (1184, 1191));
     assert!(Manager::from_words(&words[1..]).is_none());
 }
 
@@ -142,7 +191,7 @@ fn any_words_in_the_books_never_panic() {
             let at = rng.below(32) as usize;
             let part = rng.below(8) as usize;
             let books = &mut store.manager;
-            match rng.below(16) {
+            match rng.below(17) {
                 0 => books.clock.ec = word,
                 1 => books.clock.lce = word,
                 2 => books.clock.lse = word,
@@ -158,6 +207,7 @@ fn any_words_in_the_books_never_panic() {
                 12 => books.partitions.at[part].area = word,
                 13 => books.partitions.at[part].rows = word,
                 14 => books.partitions.at[part].entries = word,
+                15 => books.totals[part] = word,
                 _ => books.partitions.spare = word,
             }
         }
@@ -261,7 +311,26 @@ fn sound_again(store: &Store) -> bool {
             return false;
         }
     }
-    true
+    (0..8).all(|p| books.totals[p] == total_again(store, p))
+}
+
+/// A lot's total read a second time: the low 32 bits of each row, with each clearing that a page at LCE applies.
+fn total_again(store: &Store, p: usize) -> u64 {
+    let (part, lce) = (&store.manager.partitions.at[p], store.manager.clock.lce);
+    let entries = &store.entries[part.area as usize * 64..][..part.entries as usize];
+    let mut total = 0;
+    for row in 0..part.rows {
+        let at = entries.iter().position(|entry| row < entry.end).expect("the last end is the row count");
+        let j = entries[at].epoch;
+        let hides = |(place, clearing): (usize, &Entry)| {
+            let k = clearing.epoch;
+            clearing.mark == CLEARING && k <= lce && (j < k || j == k && at <= place)
+        };
+        if j <= lce && !entries.iter().enumerate().any(hides) {
+            total += store.rows[(part.area * 512 + row) as usize] & 0xffff_ffff;
+        }
+    }
+    total
 }
 
 #[test]
@@ -287,7 +356,10 @@ fn two_readings_of_sound_agree() {
                 4 => rng.below(3),
                 _ => rng.word(),
             };
-            if rng.per_mille(400) {
+            if rng.per_mille(100) {
+                let at = rng.below(4608) as usize;
+                store.rows[at] ^= 1 << rng.below(64);
+            } else if rng.per_mille(400) {
                 let part = store.manager.partitions.at[rng.below(8) as usize];
                 let used = part.entries.clamp(1, 64);
                 let at = part.area.min(8) * 64 + rng.below(used);
@@ -301,7 +373,7 @@ fn two_readings_of_sound_agree() {
                 // Half of the words of the books are places of deps, so the others are taken more often.
                 let at = match rng.below(4) {
                     0 => rng.below(3),
-                    1 => rng.within(1092, 1182),
+                    1 => rng.within(1092, 1190),
                     2 => 3 + 34 * rng.below(32) + rng.pick(&[0, 1, 33]),
                     _ => rng.below(words.len() as u64),
                 };

@@ -1,5 +1,5 @@
 //! The cases at the edges: session lines, and lines of small letters that do what no session can (01, "At the edges", the
-//! refusals). Each small letter has at least two numbers.
+//! refusals; 02, (iii)). Each small letter has at least two numbers.
 //!
 //! - `n s _`: made new at s.
 //! - `w field value`: a word of the store is overwritten (see `field`). Prints nothing.
@@ -52,6 +52,8 @@ fn field(store: &mut Store, at: u64) -> Option<&mut u64> {
         63 => &mut store.entries[1].epoch,
         64 => &mut store.entries[1].end,
         65 => &mut store.entries[1].mark,
+        70..=77 => &mut books.totals[lot],
+        80..=89 => &mut store.rows[lot],
         _ => return None,
     })
 }
