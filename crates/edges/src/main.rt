@@ -308,6 +308,7 @@ fn edge(
     }
     match letter {
         b'w' => {
+            poke::row(rows, a, b);
             let poked = poke::poke(state, table, a, b);
             silent(poked.state, poked.table)
         }

@@ -222,7 +222,46 @@ fn entries(t: Table, field: u64, value: u64) -> Table {
     next
 }
 
+// The total of lot `place` (70).
+fn totals(state: State, field: u64, value: u64) -> State {
+    let mut n = state;
+    let place = (field % 10) as usize;
+    if PARTITIONS_MAX <= place {
+        return n;
+    }
+    let mut ts = n.totals;
+    ts[place] = value;
+    n.totals = ts;
+    n
+}
+
+// One of the first ten rows of the first area (80).
+pub(crate) fn row(rows: &mut [u64], field: u64, value: u64) {
+    if field < 80 {
+        return;
+    }
+    let place = (field % 10) as usize;
+    if rows.len() <= place {
+        return;
+    }
+    rows[place] = value;
+}
+
+// A word of the books or of the entries; `row` overwrites the rows.
 pub(crate) fn poke(state: State, table: Table, field: u64, value: u64) -> Poked {
+    if 80 <= field {
+        return Poked {
+            state: state,
+            table: table,
+        };
+    }
+    if 70 <= field {
+        let s = totals(state, field, value);
+        return Poked {
+            state: s,
+            table: table,
+        };
+    }
     if 60 <= field {
         let t = entries(table, field, value);
         return Poked {
