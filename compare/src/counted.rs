@@ -4,7 +4,7 @@
 use std::arch::asm;
 use std::sync::atomic::{AtomicBool, AtomicUsize, Ordering::Relaxed};
 
-/// Of so many bytes a copy is called large: the books have 9.4 KB.
+/// Of so many bytes a copy is called large: the books have 9.5 KB.
 pub const LARGE: usize = 7_000;
 
 static COUNTING: AtomicBool = AtomicBool::new(false);

@@ -8,18 +8,21 @@ use model::call::{Answer, Call};
 use model::check::own_clearing;
 use model::clock::Clock;
 use model::partition::{Entry, Partition, Partitions};
+use model::random::Rng;
 use model::refusal::Refusal;
 use model::store::{Manager, Store};
+use model::stores::{changed_store, spoilt_store, CHANGES, LOW_BITS, SPOILS};
 use model::txn::{RoTable, RoTxn, RwTable, RwTxn};
 use model::visible::Reader;
 use model::{DEPS, TXNS};
 use nizgulk::books::{self, Books};
 use nizgulk::calls::{self, Reply, Seen};
+use std::fmt;
 use std::hint::black_box;
 
 /// The model's books in the proved store's layout, every word of them.
 pub fn books_of(manager: &Manager) -> Books {
-    let Manager { clock, rw, ro, partitions } = manager;
+    let Manager { clock, rw, ro, partitions, totals } = manager;
     let mut deps = [0; TXNS * DEPS];
     for (row, load) in deps.chunks_exact_mut(DEPS).zip(&rw.at) {
         row.copy_from_slice(&load.deps);
@@ -37,12 +40,13 @@ pub fn books_of(manager: &Manager) -> Books {
         deps,
         readers: books::RoTxns { at: ro.at.map(page), count: ro.count as usize, next: ro.next },
         partitions: books::Partitions { at: partitions.at.map(lot), spare: partitions.spare as usize },
+        totals: *totals,
     }
 }
 
 /// The proved store's books in the model's layout, every word of them.
 pub fn manager_of(books: &Books) -> Manager {
-    let Books { clock, writers, deps, readers, partitions } = books;
+    let Books { clock, writers, deps, readers, partitions, totals } = books;
     let mut rw = RwTable { count: writers.count as u64, ..RwTable::default() };
     for ((load, record), row) in rw.at.iter_mut().zip(&writers.at).zip(deps.chunks_exact(DEPS)) {
         *load = RwTxn { epoch: record.epoch, waiting: record.waiting, deps: [0; DEPS], deps_count: record.deps as u64 };
@@ -56,6 +60,7 @@ pub fn manager_of(books: &Books) -> Manager {
         rw,
         ro: RoTable { at: readers.at.map(page), count: readers.count as u64, next: readers.next },
         partitions: Partitions { at: partitions.at.map(lot), spare: partitions.spare as u64 },
+        totals: *totals,
     }
 }
 
@@ -162,6 +167,54 @@ pub fn live_part<'a>(answer: &Result<Answer, Refusal>, store: &'a Store) -> &'a 
 pub fn obeys_own_clearing(one: &Call, store: &Store) -> bool {
     let Call::Scan { reader, partition, .. } = one else { return false };
     own_clearing(store, *reader, *partition).is_some_and(|own| own.hides_own || own.hides_earlier)
+}
+
+/// How many stores were met with a spoilt total, with the low bits of a shown row spoilt, and with rows changed that no
+/// total counts, in each way of `CHANGES`; and how many commits and rollbacks moved a total.
+#[derive(Default)]
+pub struct Totals {
+    pub spoilt: u64,
+    pub low_bits: u64,
+    pub changed: [u64; CHANGES.len()],
+    pub moved: u64,
+}
+
+impl Totals {
+    /// A store spoilt in one field.
+    pub fn spoilt_store(&mut self, rng: &mut Rng) -> Store {
+        let (store, at) = spoilt_store(rng);
+        match SPOILS[at] {
+            (_, LOW_BITS, _) => self.low_bits += 1,
+            ("totals", ..) => self.spoilt += 1,
+            _ => {}
+        }
+        store
+    }
+
+    /// A well-formed store in which such rows were changed.
+    pub fn changed_store(&mut self, rng: &mut Rng) -> Store {
+        let (store, at) = changed_store(rng);
+        self.changed[at] += 1;
+        store
+    }
+
+    /// Notes a call, by the model's totals before it and after it.
+    pub fn note(&mut self, one: &Call, before: &Manager, after: &Manager) {
+        let closes = matches!(one, Call::Commit { .. } | Call::Rollback { .. });
+        self.moved += u64::from(closes && before.totals != after.totals);
+    }
+
+    /// Whether something of it was not met.
+    pub fn is_weak(&self) -> bool {
+        self.changed.iter().chain([&self.spoilt, &self.low_bits, &self.moved]).any(|&count| count == 0)
+    }
+}
+
+impl fmt::Display for Totals {
+    fn fmt(&self, f: &mut fmt::Formatter) -> fmt::Result {
+        let Totals { spoilt, low_bits, changed, moved } = self;
+        write!(f, "totals: {moved} moved, {spoilt} spoilt, {low_bits} by low bits, {changed:?} rows that do not count")
+    }
 }
 
 /// The number and the two values that the model's answer has.

@@ -201,6 +201,7 @@ pub fn dense(rng: &mut Rng, heaviest: bool) -> Store {
     for (i, row) in store.rows.iter_mut().enumerate() {
         *row = i as u64;
     }
+    store.settle_totals();
     assert!(well_formed(&store));
     store
 }

@@ -16,13 +16,17 @@ const LOTS: [(u64, &str); 3] = [(NICKEL, "nickel"), (COBALT, "cobalt"), (SCRAP, 
 /// What a reader ought to be shown of each lot.
 type Shown = [Vec<u64>; LOTS.len()];
 
-/// A weighing as one row: which bench, and how many grams.
-fn weighed(bench: u64, grams: u64) -> u64 {
-    bench << 32 | grams
+/// A weighing as one row: which bench, and in the low 32 bits, which the books add up, how many milligrams.
+fn weighed(bench: u64, milligrams: u64) -> u64 {
+    bench << 32 | milligrams
+}
+
+fn milligrams(row: u64) -> u64 {
+    row & 0xffff_ffff
 }
 
 fn told(row: u64) -> String {
-    format!("{} g by bench {}", row & 0xffff_ffff, row >> 32)
+    format!("{} mg by bench {}", milligrams(row), row >> 32)
 }
 
 fn same<T: PartialEq + std::fmt::Debug>(what: &str, is: T, ought: T) -> Result<(), String> {
@@ -63,6 +67,16 @@ fn scan(store: &Store, who: &str, reader: impl Into<Reader>, ought: &Shown) -> R
     Ok(())
 }
 
+/// Holds the books' totals to what a page opened now ought to be shown.
+fn weigh(store: &Store, ought: &Shown) -> Result<(), String> {
+    for ((lot, name), rows) in LOTS.into_iter().zip(ought) {
+        let total = rows.iter().copied().map(milligrams).sum();
+        println!("the books have {total} mg of {name}");
+        same(name, store.total(lot), Some(total))?;
+    }
+    Ok(())
+}
+
 fn main() -> Result<(), Box<dyn Error>> {
     let mut store = Store::new(Epoch::FIRST)?;
 
@@ -82,6 +96,8 @@ fn main() -> Result<(), Box<dyn Error>> {
     same("what bench 2 is told", commit(&mut store, second)?, Closed { lce, oldest: Some(first) })?;
     same("what bench 1 is told", commit(&mut store, first)?, Closed { lce: second, oldest: None })?;
     let morning: Shown = std::array::from_fn(|lot| [by_first[lot].as_slice(), &by_second[lot]].concat());
+
+    weigh(&store, &morning)?;
 
     // The order page is opened, and stays open.
     let order = store.begin_ro(None)?;
@@ -109,10 +125,11 @@ fn main() -> Result<(), Box<dyn Error>> {
     same("rows of cobalt", store.row_count(COBALT), held)?;
     println!("load {wrong} is rolled back");
 
-    // The order page shows what it showed in the morning; a page of the evening shows the evening.
+    // The order page shows what it showed in the morning; a page of the evening shows the evening, and so do the books.
     scan(&store, "the order page, still open,", order, &morning)?;
     let late = store.begin_ro(None)?;
     scan(&store, "the evening's page", late, &evening)?;
+    weigh(&store, &evening)?;
 
     // While the order page is open, LSE cannot pass it, and the scrap stays.
     same("LSE", store.advance_lse(store.lce()), Err(Refusal::Blocked))?;

@@ -21,7 +21,7 @@ macro_rules! layout {
 pub(crate) use layout;
 
 /// Bytes of the books.
-pub(crate) const BOOKS_BYTES: usize = 9_464;
+pub(crate) const BOOKS_BYTES: usize = 9_528;
 /// Bytes of an entry.
 pub(crate) const ENTRY_BYTES: usize = 24;
 
@@ -110,7 +110,7 @@ pub struct Partitions {
 }
 layout!(Partitions, 200, { at: 0, spare: 192 });
 
-/// The books: the transaction manager's words and the partitions' (crate rules: `State`). 9,464 bytes.
+/// The books: the transaction manager's words, the partitions' and their totals (crate rules: `State`). 9,528 bytes.
 #[repr(C)]
 #[derive(Clone, Copy, Debug, PartialEq, Eq)]
 pub struct Books {
@@ -124,8 +124,11 @@ pub struct Books {
     pub readers: RoTxns,
     /// The partitions (01: lots).
     pub partitions: Partitions,
+    /// The total of each partition: the low 32 bits, milligrams, of the rows that a read-only transaction (01: page)
+    /// at LCE would show, added up. Books in which one differs from that sum are unsound.
+    pub totals: [u64; PARTITIONS_MAX],
 }
-layout!(Books, BOOKS_BYTES, { clock: 0, writers: 24, deps: 800, readers: 8_736, partitions: 9_264 });
+layout!(Books, BOOKS_BYTES, { clock: 0, writers: 24, deps: 800, readers: 8_736, partitions: 9_264, totals: 9_464 });
 
 impl Books {
     /// Books whose words are all 0. They are unsound, so that every call but making new is refused by 5.
@@ -135,6 +138,7 @@ impl Books {
         deps: [0; DEPS_ALL],
         readers: RoTxns { at: [RoTxn { ticket: 0, epoch: 0 }; READERS_MAX], count: 0, next: 0 },
         partitions: Partitions { at: [Partition { area: 0, rows: 0, entries: 0 }; PARTITIONS_MAX], spare: 0 },
+        totals: [0; PARTITIONS_MAX],
     };
 }
 

@@ -24,7 +24,7 @@ pub struct Reply {
     /// How many rows that are; 0 of another call.
     pub count: usize,
 }
-layout!(Reply, 9_504, { books: 0, number: 9_464, value: 9_472, second: 9_480, from: 9_488, count: 9_496 });
+layout!(Reply, 9_568, { books: 0, number: 9_528, value: 9_536, second: 9_544, from: 9_552, count: 9_560 });
 
 /// The reply to a scan, which leaves the books as they were (crate exports: `Seen`).
 #[repr(C)]

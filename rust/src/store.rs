@@ -10,7 +10,7 @@ use core::fmt;
 
 /// A store: the books, and the areas of entries and of rows that the calls are lent. No heap, no global state.
 ///
-/// It has 60,152 bytes, and a call uses up to 53,552 bytes of stack, the books and the reply included (`tools/stack`,
+/// It has 60,216 bytes, and a call uses up to 53,552 bytes of stack, the books and the reply included (`tools/stack`,
 /// built for release). [`Store::new`] hands a store over by value, which a small stack may not bear. To place one
 /// elsewhere from the start:
 ///
@@ -29,6 +29,8 @@ use core::fmt;
 /// ```
 ///
 /// - on the heap or wherever else there are [`STORE_WORDS`] words, by [`Store::in_words`].
+///
+/// A row is any word. Its low 32 bits are milligrams, which the books add up for each partition ([`Store::total`]).
 ///
 /// Each call tests first whether the store is sound, so that words which do not fit together are refused by 5. Words
 /// that fit together are believed: what 01 promises of a store, it promises of one that only these calls have written.
@@ -319,6 +321,23 @@ impl Store {
     /// How many rows a partition (01: lot) has, shown to anyone or not; none if there is no such partition.
     pub fn row_count(&self, partition: u64) -> Option<usize> {
         self.books.partitions.at.get(partition as usize).map(|one| one.rows)
+    }
+
+    /// The total of a partition (01: lot): the milligrams, the low 32 bits, of the rows that a read-only transaction
+    /// (01: page) begun now at LCE would be shown. None if there is no such partition.
+    ///
+    /// ```
+    /// use nizgulk::{Epoch, Refusal, Store};
+    /// let mut store = Store::new(Epoch::FIRST)?;
+    /// let load = store.begin()?;
+    /// store.append(load, 0, &[7 << 32 | 250, 300])?;
+    /// assert_eq!(store.total(0), Some(0));
+    /// store.commit(load)?;
+    /// assert_eq!(store.total(0), Some(550));
+    /// # Ok::<(), Refusal>(())
+    /// ```
+    pub fn total(&self, partition: u64) -> Option<u64> {
+        self.books.totals.get(partition as usize).copied()
     }
 
     /// The books.

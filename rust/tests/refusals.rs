@@ -91,12 +91,15 @@ fn unsound_is_5() {
     refused(5, &mut Store::blank(), Store::begin);
     let (store, load, page) = used();
     let (books, entries, rows) = store.into_parts();
-    let spoilt: [fn(&mut Books); 5] = [
+    let spoilt: [fn(&mut Books); 8] = [
         |books| books.clock.lce = books.clock.ec,
         |books| books.writers.at[0].waiting = 2,
         |books| books.deps[1] = u64::MAX,
         |books| books.readers.count = usize::MAX,
         |books| books.partitions.spare = 0,
+        |books| books.totals[0] += 1,
+        |books| books.totals[7] = u64::MAX,
+        |books| books.totals.swap(0, 1),
     ];
     for spoil in spoilt {
         let mut books = books;
@@ -118,6 +121,24 @@ fn unsound_is_5() {
     assert_eq!(calls::create(&books, &entries, &[], 1).number, 5);
     assert_eq!(calls::create(&books, &entries, &rows, 1).number, 0);
     assert_eq!(rows.len(), ROWS_LENT);
+}
+
+#[test]
+fn a_row_that_a_total_counts_is_read() {
+    let (store, _, _) = used();
+    let (books, entries, rows) = store.into_parts();
+    for bit in 0..64 {
+        // Rows 0 to 4 are shown, 5 to 8 are of an open load, and the word after them is of none.
+        for (at, number) in [(0, 5), (4, 5), (5, 0), (8, 0), (9, 0)] {
+            let mut rows = rows;
+            rows[at] ^= 1 << bit;
+            let begun = calls::begin(&books, &entries, &rows).number;
+            assert_eq!(begun, if bit < 32 { number } else { 0 }, "bit {bit} of row {at}");
+        }
+    }
+    let mut swapped = rows;
+    swapped.swap(0, 4);
+    assert_eq!(calls::begin(&books, &entries, &swapped).number, 0);
 }
 
 #[test]

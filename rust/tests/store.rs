@@ -1,5 +1,5 @@
 //! What the crate adds to the calls: the load that a close names, the iterator over rows shown, what a load is shown
-//! that clears, purge's part, a store's words, and where it may lie.
+//! that clears, purge's part, the totals, a store's words, and where it may lie.
 
 use nizgulk::calls;
 use nizgulk::limits::{ROWS_MAX, STORE_WORDS};
@@ -139,6 +139,45 @@ fn a_purge_answers_with_the_rows_in_force() {
     assert_eq!((purged.rewritten, purged.rows), (false, &[][..]));
 }
 
+/// The total of partition 3, and what a page begun now is shown of it, added up.
+fn total(store: &mut Store) -> u64 {
+    let page = store.begin_ro(None).unwrap();
+    let sum = store.scan(page, 3).unwrap().map(|row| row & 0xffff_ffff).sum();
+    store.end_ro(page).unwrap();
+    assert_eq!((store.total(3), store.total(8)), (Some(sum), None));
+    sum
+}
+
+#[test]
+fn a_total_is_what_a_page_at_lce_would_show() {
+    let mut store = Store::new(Epoch::FIRST).unwrap();
+    let [first, second] = [(); 2].map(|()| store.begin().unwrap());
+    store.append(first, 3, &[1]).unwrap();
+    store.append(second, 3, &[4_294_967_301, u64::MAX]).unwrap();
+    store.commit(second).unwrap();
+    assert_eq!(total(&mut store), 0);
+    // The roll back moves LCE to the second, and the total with it.
+    store.roll_back(first).unwrap();
+    assert_eq!(total(&mut store), 5 + 4_294_967_295);
+    let third = store.begin().unwrap();
+    store.append(third, 3, &[6]).unwrap();
+    store.clear(third, 3).unwrap();
+    store.append(third, 3, &[7]).unwrap();
+    assert_eq!(total(&mut store), 5 + 4_294_967_295);
+    store.commit(third).unwrap();
+    assert_eq!(total(&mut store), 7);
+    store.advance_lse(None).unwrap();
+    assert!(store.purge(3).unwrap().rewritten);
+    assert_eq!(total(&mut store), 7);
+    let fourth = store.begin().unwrap();
+    store.append(fourth, 3, &[u64::MAX; ROWS_MAX - 1]).unwrap();
+    store.append(fourth, 4, &[u64::MAX; ROWS_MAX]).unwrap();
+    store.commit(fourth).unwrap();
+    assert_eq!((total(&mut store), store.total(4)), (2_194_728_287_752, Some(2_199_023_255_040)));
+    store.create(Epoch::FIRST).unwrap();
+    assert_eq!(store.books().totals, [0; 8]);
+}
+
 #[test]
 fn a_saved_store_goes_on() {
     let (mut store, second, rows) = striped(&[5, 13]);
@@ -167,7 +206,8 @@ fn words_lie_in_order() {
     let store = Store::in_words(&mut words);
     assert_eq!([store.ec(), store.lce(), store.lse()].map(Epoch::get), [0, 1, 2]);
     assert_eq!(store.books().partitions.spare, 9_464 / 8 - 1);
-    assert_eq!(store.entries()[0].epoch, 9_464 / 8);
+    assert_eq!([0, 7, 8].map(|lot| store.total(lot)), [Some(9_464 / 8), Some(9_528 / 8 - 1), None]);
+    assert_eq!(store.entries()[0].epoch, 9_528 / 8);
     assert_eq!(store.rows()[ROWS_MAX * 9 - 1], STORE_WORDS as u64 - 1);
     assert!(store.words().iter().copied().eq(0..STORE_WORDS as u64));
 }

@@ -1,9 +1,9 @@
 //! Runs the proved store's calls, by its static library, beside the model: on stores that histories made, on random
-//! well-formed stores that no history made, on stores spoilt in one field, and on areas of wrong lengths. Compared are the
-//! number, the values, the part that a purge answers with, and every word of the books, the areas and the bitmap at the
-//! end of each call.
+//! well-formed stores that no history made, on such stores with rows changed that no total counts, on stores spoilt in
+//! one field, and on areas of wrong lengths. Compared are the number, the values, the part that a purge answers with,
+//! and every word of the books, the areas and the bitmap at the end of each call.
 
-use compare::{by_library, live_part, numbers, obeys_own_clearing, told};
+use compare::{by_library, live_part, numbers, obeys_own_clearing, told, Totals};
 use model::call::Call;
 use model::check::difference;
 use model::histories::{Calls, PROFILES};
@@ -11,7 +11,7 @@ use model::partition::Entry;
 use model::random::Rng;
 use model::sound::well_formed;
 use model::store::Store;
-use model::stores::{random_store, spoilt_store};
+use model::stores::random_store;
 use std::process::ExitCode;
 
 /// Rounds, if no other number is given.
@@ -20,13 +20,14 @@ const ROUNDS: u64 = 20_000;
 const CALLS: u64 = 12;
 
 /// How often each number was answered, how many rows the parts had that purges answered with, how many commits and
-/// rollbacks named a load, and from how many scans by a load its own clearing hid rows.
+/// rollbacks named a load, from how many scans by a load its own clearing hid rows, and what was met of totals.
 #[derive(Default)]
 struct Tally {
     numbers: [u64; 11],
     part_rows: usize,
     named: u64,
     own_clearings: u64,
+    totals: Totals,
 }
 
 /// Runs one call on both, and says where they differ.
@@ -34,6 +35,7 @@ fn differs(one: &Call, store: &mut Store, tally: &mut Tally) -> Result<(), Strin
     let mut proved = store.clone();
     let mut bitmap = one.lent_bitmap();
     let mut expected_bitmap = bitmap.clone();
+    let before = store.manager;
     let reply = by_library(one, &mut proved, &mut bitmap);
     let answer = one.run(store, &mut expected_bitmap);
     let expected = numbers(&answer);
@@ -43,6 +45,7 @@ fn differs(one: &Call, store: &mut Store, tally: &mut Tally) -> Result<(), Strin
         tally.named += u64::from(reply.second > 0);
     }
     tally.own_clearings += u64::from(reply.number == 0 && obeys_own_clearing(one, store));
+    tally.totals.note(one, &before, &store.manager);
     if told(&reply) != expected {
         return Err(format!("answers {:?}, and the model {expected:?}", told(&reply)));
     }
@@ -60,12 +63,13 @@ fn differs(one: &Call, store: &mut Store, tally: &mut Tally) -> Result<(), Strin
 }
 
 /// A store for this round: what a history made, or any well-formed one, or one that is spoilt or of a wrong length.
-fn store_for(round: u64, calls: &mut Calls) -> Store {
+fn store_for(round: u64, calls: &mut Calls, totals: &mut Totals) -> Store {
     let rng = &mut calls.rng;
     match round % 4 {
         0 => calls.first_store().0,
-        1 => random_store(rng),
-        2 => spoilt_store(rng).0,
+        1 if round % 8 == 1 => random_store(rng),
+        1 => totals.changed_store(rng),
+        2 => totals.spoilt_store(rng),
         _ => wrong_length(rng),
     }
 }
@@ -93,7 +97,7 @@ fn main() -> ExitCode {
     for round in 0..rounds {
         let profile = PROFILES[(round / 4) as usize % PROFILES.len()];
         let mut calls = Calls::new(round, profile);
-        let mut store = store_for(round, &mut calls);
+        let mut store = store_for(round, &mut calls, &mut tally.totals);
         // Calls are drawn for a well-formed store.
         let other = random_store(&mut calls.rng);
         for _ in 0..CALLS {
@@ -108,9 +112,10 @@ fn main() -> ExitCode {
         println!("no call was answered {number}: the comparison is too weak");
         return ExitCode::FAILURE;
     }
-    let Tally { numbers, part_rows, named, own_clearings } = tally;
-    let met = format!("{part_rows} rows in parts, {named} loads named, {own_clearings} scans with own clearings");
-    if part_rows == 0 || named == 0 || own_clearings == 0 {
+    let Tally { numbers, part_rows, named, own_clearings, totals } = tally;
+    let met =
+        format!("{part_rows} rows in parts, {named} loads named, {own_clearings} scans with own clearings; {totals}");
+    if part_rows == 0 || named == 0 || own_clearings == 0 || totals.is_weak() {
         println!("{met}: the comparison is too weak");
         return ExitCode::FAILURE;
     }

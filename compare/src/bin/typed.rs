@@ -2,13 +2,13 @@
 //! Compared are the number, the values, the rows that a scan hands out, the part that a purge does, and every word of
 //! the store at the end of each call.
 
-use compare::{books_of, live_part, numbers, obeys_own_clearing, Areas};
+use compare::{books_of, live_part, numbers, obeys_own_clearing, Areas, Totals};
 use model::call::{Answer, Call};
 use model::histories::{Calls, PROFILES};
 use model::partition::rows_of;
 use model::sound::well_formed;
 use model::store::Store;
-use model::stores::{random_store, spoilt_store};
+use model::stores::random_store;
 use model::visible::Reader;
 use nizgulk::limits::BITMAP_MAX;
 use nizgulk::{Closed, Epoch, Refusal, Ticket};
@@ -81,7 +81,7 @@ fn typed_of(store: &Store) -> Option<nizgulk::Store> {
 }
 
 /// How often each number was answered, how many rows scans and purges handed out, how many commits and rollbacks named
-/// a load, and from how many scans by a load its own clearing hid rows.
+/// a load, from how many scans by a load its own clearing hid rows, and what was met of totals.
 #[derive(Default)]
 struct Tally {
     numbers: [u64; 11],
@@ -89,12 +89,15 @@ struct Tally {
     purged: usize,
     named: u64,
     own_clearings: u64,
+    totals: Totals,
 }
 
 /// Runs one call on both, and says where they differ.
 fn differs(one: &Call, proved: &mut nizgulk::Store, store: &mut Store, tally: &mut Tally) -> Result<(), String> {
     let told = typed(one, proved).map_err(Refusal::number);
+    let before = store.manager;
     let ought = expected(one, store);
+    tally.totals.note(one, &before, &store.manager);
     if told != ought {
         return Err(format!("answers {told:?}, and the model {ought:?}"));
     }
@@ -124,8 +127,9 @@ fn main() -> ExitCode {
         let mut calls = Calls::new(round, profile);
         let mut store = match round % 3 {
             0 => calls.first_store().0,
-            1 => random_store(&mut calls.rng),
-            _ => spoilt_store(&mut calls.rng).0,
+            1 if round % 6 == 1 => random_store(&mut calls.rng),
+            1 => tally.totals.changed_store(&mut calls.rng),
+            _ => tally.totals.spoilt_store(&mut calls.rng),
         };
         let other = random_store(&mut calls.rng);
         let Some(mut proved) = typed_of(&store) else { continue };
@@ -143,11 +147,10 @@ fn main() -> ExitCode {
         println!("by number {:?}: the comparison is too weak", tally.numbers);
         return ExitCode::FAILURE;
     }
-    let Tally { numbers, scanned, purged, named, own_clearings } = tally;
-    let met = format!(
-        "{scanned} rows scanned, {purged} in parts, {named} loads named, {own_clearings} scans with own clearings"
-    );
-    if scanned == 0 || purged == 0 || named == 0 || own_clearings == 0 {
+    let Tally { numbers, scanned, purged, named, own_clearings, totals } = tally;
+    let rows = format!("{scanned} rows scanned, {purged} in parts");
+    let met = format!("{rows}, {named} loads named, {own_clearings} scans with own clearings; {totals}");
+    if scanned == 0 || purged == 0 || named == 0 || own_clearings == 0 || totals.is_weak() {
         println!("{met}: the comparison is too weak");
         return ExitCode::FAILURE;
     }
