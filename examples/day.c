@@ -7,7 +7,7 @@
 #include <stdlib.h>
 #include <string.h>
 
-/* The partitions (01: lots) of this day. A row is a weight in grams. */
+/* The partitions (01: lots) of this day. A row is a weight in milligrams. */
 enum { BRASS = 0, BRONZE = 1, SCRAP = 2 };
 static const char *const names[] = {"brass", "bronze", "scrap"};
 
@@ -130,6 +130,13 @@ static int are(const struct shown *all, const uint64_t *row, size_t count)
     return all->count == count && memcmp(all->row, row, count * sizeof *row) == 0;
 }
 
+/* The books' total of a partition: what a page that opens now would be shown, added up. */
+static void weigh(uint64_t p, uint64_t total)
+{
+    printf("  the books have %d mg of %s\n", (int)reply.state.totals[p], names[p]);
+    due("the total", reply.state.totals[p] == total);
+}
+
 /* Purges, and checks the part that is handed out. */
 static void purge(uint64_t p, uint64_t rewritten, const uint64_t *row, size_t count)
 {
@@ -167,6 +174,7 @@ int main(void)
     commit(first);
     due("then both are committed", reply.value == second);
     due("and no load is open", reply.second == 0);
+    weigh(BRASS, 410 + 395 + 402 + 388);
 
     printf("Orders are planned\n");
     order = open_page();
@@ -189,7 +197,9 @@ int main(void)
     due("and another load is shown the scrap as it was", are(&now, scrap, COUNT(scrap)));
     append(fourth, BRASS, mistyped, COUNT(mistyped));
     append(fourth, BRONZE, mistyped, COUNT(mistyped));
+    weigh(SCRAP, 55 + 60 + 71);
     commit(third);
+    weigh(SCRAP, 80);
     due("a later load does not hold a commit back", reply.value == third && reply.second == fourth);
     reply = nizgulk_roll_back(reply.state, LENT, fourth);
     printf("  load %d is rolled back; committed up to %d\n", (int)fourth, (int)accepted("a roll back"));
@@ -219,6 +229,7 @@ int main(void)
     purge(SCRAP, 1, new_scrap, COUNT(new_scrap));
     purge(BRASS, 1, all_brass, COUNT(all_brass));
     purge(BRASS, 0, all_brass, COUNT(all_brass));
+    weigh(BRASS, 410 + 395 + 402 + 388);
     now = by_page(evening, SCRAP);
     due("a purge changes nothing that is shown", are(&now, new_scrap, COUNT(new_scrap)));
     now = by_page(evening, BRASS);

@@ -20,8 +20,8 @@
  *   them, but they no longer describe the areas. A scan changes no books and replies without them.
  * - One history. The store starts with an accepted nizgulk_create, and from then on nobody but these calls writes
  *   the books, the entries and the rows. Then no call is ever refused by 5, and what 01 promises of the rows shown
- *   holds. Other books and other entries may be handed over too: where they are not sound (01) the call answers 5,
- *   and in no case is anything undefined.
+ *   holds. Other books, entries and rows may be handed over too: where they are not sound (01; for the totals see
+ *   struct nizgulk_state) the call answers 5, and in no case is anything undefined.
  * - Stack. There is as much of it left as docs/FIGURES.md has for the call.
  *
  * LENGTHS. `entries_len` is NIZGULK_ENTRIES_LENT and `rows_len` is NIZGULK_ROWS_LENT: nine areas of 64 entries, and
@@ -78,7 +78,7 @@ enum nizgulk_number {
     NIZGULK_SHORT_BITMAP = 3,      /* the bitmap has fewer bytes than the partition's rows need */
     NIZGULK_OUT_OF_RANGE = 4,      /* starting epoch, page epoch or LSE target out of its range */
     /* from the state */
-    NIZGULK_UNSOUND = 5,      /* the store is not sound (01), or a lent area has another length */
+    NIZGULK_UNSOUND = 5,      /* the store is not sound (01, and its totals), or a lent area has another length */
     NIZGULK_EXHAUSTED = 6,    /* begin: the last epoch is given out; begin_ro: the last ticket is */
     NIZGULK_TXNS_FULL = 7,    /* begin: 32 are open or waiting; begin_ro: 32 are open */
     NIZGULK_ROWS_FULL = 8,    /* more rows than the partition has left of 512 */
@@ -135,16 +135,21 @@ struct nizgulk_partitions {
     size_t spare;
 };
 
-/* The deps of record i are `writers.at[i].deps` words from deps[NIZGULK_DEPS_MAX * i] on, rising; the others are 0. */
+/* The deps of record i are `writers.at[i].deps` words from deps[NIZGULK_DEPS_MAX * i] on, rising; the others are 0.
+ * totals[p] is the total of partition p: the milligrams of the rows that a read-only transaction at LCE would be shown,
+ * added up, at most 2,199,023,255,040. A store in which a total differs from that sum is not sound. A commit and a roll
+ * back move it; a purge leaves it; nizgulk_create sets all to 0. */
 struct nizgulk_state {
     struct nizgulk_clock clock;
     struct nizgulk_rw_txns writers;
     uint64_t deps[NIZGULK_DEPS_ALL];
     struct nizgulk_ro_txns readers;
     struct nizgulk_partitions partitions;
+    uint64_t totals[NIZGULK_PARTITIONS_MAX];
 };
 
-/* ---- What is lent. A row is any 64-bit word; the store does not look inside it. */
+/* ---- What is lent. A row is any 64-bit word. Its low 32 bits are milligrams, which the totals add up; the store does
+ * not look at the others. */
 
 /* An entry of a partition: an epoch, how many rows the partition holds after it, and a mark: 0 rows, 1 a delete of
  * all that stands in the partition (01: clearing). */
@@ -178,8 +183,8 @@ struct nizgulk_seen {
 /* ---- Making new, and read-write transactions (01: loads). */
 
 /* Making new (01) at the epoch `start`: EC is `start`, LCE and LSE are `start` - 1, nothing is open, all partitions
- * are empty, the next ticket is 1. It does not look at `state` (hand over zeros) nor into the areas, and writes
- * nothing lent.
+ * are empty, all totals are 0, the next ticket is 1. It does not look at `state` (hand over zeros) nor into the areas,
+ * and writes nothing lent.
  * Refusals, in this order: 5 (only for the lengths), 4 (`start` is not 1 to NIZGULK_LAST_EPOCH).
  * Answers no value. */
 struct nizgulk_reply nizgulk_create(struct nizgulk_state state, const struct nizgulk_entry *entries, size_t entries_len,
@@ -208,17 +213,17 @@ struct nizgulk_reply nizgulk_append(struct nizgulk_state state, struct nizgulk_e
 struct nizgulk_reply nizgulk_clear(struct nizgulk_state state, struct nizgulk_entry *entries, size_t entries_len,
                                    uint64_t *rows, size_t rows_len, uint64_t txn, uint64_t p);
 
-/* Transaction `txn` commits; LCE becomes the greatest committed epoch that has no open load of smaller epoch. Above
- * LCE the transaction waits (01) and keeps its place. Writes nothing lent.
+/* Transaction `txn` commits; LCE becomes the greatest committed epoch that has no open load of smaller epoch, and the
+ * totals move with it. Above LCE the transaction waits (01) and keeps its place. Writes nothing lent.
  * Refusals, in this order: 5, 2.
  * Answers LCE in `value`, and in `second` the epoch of the oldest transaction that is open then, or 0. Where LCE is
  * below `txn`, that one holds it back. */
 struct nizgulk_reply nizgulk_commit(struct nizgulk_state state, const struct nizgulk_entry *entries, size_t entries_len,
                                     const uint64_t *rows, size_t rows_len, uint64_t txn);
 
-/* Transaction `txn` is rolled back: its rows and entries go from each partition, and LCE moves as at a commit. Each
- * partition that has an entry of it, in rising order, is written anew to the spare area, and its old area is the
- * spare one from then on. Words beyond those written stay, and other partitions are not written.
+/* Transaction `txn` is rolled back: its rows and entries go from each partition, and LCE and the totals move as at a
+ * commit. Each partition that has an entry of it, in rising order, is written anew to the spare area, and its old area
+ * is the spare one from then on. Words beyond those written stay, and other partitions are not written.
  * Refusals, in this order: 5, 2.
  * Answers LCE in `value`, and in `second` the epoch of the oldest transaction that is open then, or 0. */
 struct nizgulk_reply nizgulk_roll_back(struct nizgulk_state state, struct nizgulk_entry *entries, size_t entries_len,
@@ -271,9 +276,9 @@ struct nizgulk_reply nizgulk_advance_lse(struct nizgulk_state state, const struc
                                          size_t entries_len, const uint64_t *rows, size_t rows_len, uint64_t target);
 
 /* Purges partition `p` at LSE: rows that clearings up to LSE hide go, and so do these clearings; the rows left of
- * epochs up to LSE get epoch LSE. Nobody is shown other rows than before. The partition is written anew to the spare
- * area, and its old area is the spare one from then on; words beyond those written stay. Where there is nothing to
- * do it is skipped: nothing is written.
+ * epochs up to LSE get epoch LSE. Nobody is shown other rows than before, and the total stays. The partition is
+ * written anew to the spare area, and its old area is the spare one from then on; words beyond those written stay.
+ * Where there is nothing to do it is skipped: nothing is written.
  * Refusals, in this order: 5, 1.
  * Answers 1 (rewritten) or 0 (skipped) in `value`; in `from` and `count` the part in force (01), all rows now in the
  * partition: rows[from] to rows[from + count - 1], until the next call that writes rows. */

@@ -1,8 +1,8 @@
 /* The layout that include/nizgulk.h states. Asserted where this is compiled, as C99 or as C++: every size, place and
  * width, in bytes. Checked where it is run, against the library: a history that leaves another number in almost every
  * word of the books, compared word by word with books written here by the names of their fields; that the library reads
- * each of these words; every limit from both sides; every refusal; what a load is shown that clears. It ends with
- * status 1 where something differs. */
+ * each of these words; every limit from both sides; every refusal; what a load is shown that clears; the totals, and
+ * which bits of the rows they hold the store to. It ends with status 1 where something differs. */
 #include "nizgulk.h"
 
 #include <stdio.h>
@@ -51,25 +51,26 @@ SIZE(nizgulk_partitions, 200);
 FIELD(nizgulk_partitions, at, 0, 8 * 24);
 FIELD(nizgulk_partitions, spare, 192, 8);
 
-SIZE(nizgulk_state, 9464);
+SIZE(nizgulk_state, 9528);
 FIELD(nizgulk_state, clock, 0, 24);
 FIELD(nizgulk_state, writers, 24, 776);
 FIELD(nizgulk_state, deps, 800, 32 * 31 * 8);
 FIELD(nizgulk_state, readers, 8736, 528);
 FIELD(nizgulk_state, partitions, 9264, 200);
+FIELD(nizgulk_state, totals, 9464, 8 * 8);
 
 SIZE(nizgulk_entry, 24);
 FIELD(nizgulk_entry, epoch, 0, 8);
 FIELD(nizgulk_entry, end, 8, 8);
 FIELD(nizgulk_entry, mark, 16, 8);
 
-SIZE(nizgulk_reply, 9504);
-FIELD(nizgulk_reply, state, 0, 9464);
-FIELD(nizgulk_reply, number, 9464, 8);
-FIELD(nizgulk_reply, value, 9472, 8);
-FIELD(nizgulk_reply, second, 9480, 8);
-FIELD(nizgulk_reply, from, 9488, 8);
-FIELD(nizgulk_reply, count, 9496, 8);
+SIZE(nizgulk_reply, 9568);
+FIELD(nizgulk_reply, state, 0, 9528);
+FIELD(nizgulk_reply, number, 9528, 8);
+FIELD(nizgulk_reply, value, 9536, 8);
+FIELD(nizgulk_reply, second, 9544, 8);
+FIELD(nizgulk_reply, from, 9552, 8);
+FIELD(nizgulk_reply, count, 9560, 8);
 
 SIZE(nizgulk_seen, 24);
 FIELD(nizgulk_seen, number, 0, 8);
@@ -83,6 +84,7 @@ static struct nizgulk_entry entries[NIZGULK_ENTRIES_LENT + 1], want_entries[NIZG
 static uint64_t rows[NIZGULK_ROWS_LENT + 1], want_rows[NIZGULK_ROWS_LENT + 1];
 static struct nizgulk_reply reply;
 static struct nizgulk_state want, before;
+static uint64_t weight[NIZGULK_PARTITIONS_MAX]; /* the low 32 bits of what write_to has appended, added up */
 static int checks, failures;
 
 #define LENT entries, NIZGULK_ENTRIES_LENT, rows, NIZGULK_ROWS_LENT
@@ -140,7 +142,8 @@ static void write_to(size_t p, uint64_t txn, size_t count)
     uint64_t batch[NIZGULK_ROWS_MAX];
     size_t i;
     for (i = 0; i < count; i++) {
-        batch[i] = 1000000 * txn + 1000 * p + lot->rows + i;
+        batch[i] = (txn << 48) + 1000000 * txn + 1000 * p + lot->rows + i;
+        weight[p] += 1000000 * txn + 1000 * p + lot->rows + i;
         want_rows[NIZGULK_ROWS_MAX * lot->area + lot->rows + i] = batch[i];
     }
     lot->rows += count;
@@ -165,7 +168,8 @@ static void all_same(const char *what)
     same("rows", rows, want_rows, sizeof rows);
 }
 
-/* 32 loads from 1036 on, of which 1041 waits; 32 pages, tickets 4 to 35 at the epochs 1004 to 1035. */
+/* 32 loads from 1036 on, of which 1041 waits; 32 pages, tickets 4 to 35 at the epochs 1004 to 1035. Each total is of
+ * what the loads up to 1003 have brought. */
 static void history(void)
 {
     uint64_t i, t, p;
@@ -181,6 +185,11 @@ static void history(void)
         if (t <= 2) {
             write_to(2, 1000 + t, 4 - t);
         }
+        for (p = 0; p < NIZGULK_PARTITIONS_MAX; p++) {
+            if (t == 3 && p != 2) {
+                write_to(p, 1003, 1);
+            }
+        }
         reply = nizgulk_commit(reply.state, LENT, 1000 + t);
         told("commit", NIZGULK_ACCEPTED, 1000 + t);
         if (t > NIZGULK_READERS_MAX) {
@@ -190,6 +199,7 @@ static void history(void)
         reply = nizgulk_begin_ro(reply.state, LENT, 0);
         told("begin_ro", NIZGULK_ACCEPTED, t);
     }
+    memcpy(want.totals, weight, sizeof weight);
     reply = nizgulk_advance_lse(reply.state, LENT, 0);
     told("advance_lse", NIZGULK_ACCEPTED, 1004);
 
@@ -297,7 +307,7 @@ static void limits(void)
     told("partition 8", NIZGULK_UNKNOWN_PARTITION, 0);
     reply = nizgulk_append(reply.state, LENT, batch, NIZGULK_ROWS_MAX - 1, 1036, 0);
     told("row 513", NIZGULK_ROWS_FULL, 0);
-    write_to(0, 1037, NIZGULK_ROWS_MAX - 2);
+    write_to(0, 1037, NIZGULK_ROWS_MAX - 3);
     while (want.partitions.at[1].entries < NIZGULK_ENTRIES_MAX) {
         write_to(1, 1036, 0);
     }
@@ -396,6 +406,90 @@ static void reload(void)
     shown_to("what another load is shown", 3003, 2, 0x03);
 }
 
+/* The total of partition 5, and that a begin by such books and rows answers `number`. */
+static void weighs(const char *what, uint64_t total, uint64_t number)
+{
+    is(what, reply.state.totals[5], total);
+    is(what, nizgulk_begin(reply.state, LENT).number, number);
+}
+
+/* A total is of what a page at LCE would be shown, of each row the low 32 bits, and a store without that is refused. */
+static void totals(void)
+{
+    const uint64_t five = UINT64_C(4294967301), top = UINT64_MAX, one = 1;
+    uint64_t txn, all[NIZGULK_ROWS_MAX];
+    size_t p, bit;
+    reply = nizgulk_create(reply.state, LENT, 4001);
+    told("making new", NIZGULK_ACCEPTED, 0);
+    weighs("a total of a store made new", 0, NIZGULK_ACCEPTED);
+    for (txn = 4001; txn <= 4002; txn++) {
+        reply = nizgulk_begin(reply.state, LENT);
+        told("begin", NIZGULK_ACCEPTED, txn);
+    }
+    reply = nizgulk_append(reply.state, LENT, &one, 1, 4001, 5);
+    told("append", NIZGULK_ACCEPTED, 1);
+    reply = nizgulk_append(reply.state, LENT, &five, 1, 4002, 5);
+    told("append", NIZGULK_ACCEPTED, 2);
+    reply = nizgulk_append(reply.state, LENT, &top, 1, 4002, 5);
+    told("append", NIZGULK_ACCEPTED, 3);
+    reply = nizgulk_commit(reply.state, LENT, 4002);
+    told_both("a commit that is held back", NIZGULK_ACCEPTED, 4000, 4001);
+    weighs("a total with a load waiting", 0, NIZGULK_ACCEPTED);
+    reply = nizgulk_roll_back(reply.state, LENT, 4001);
+    told_both("a roll back that lets LCE go on", NIZGULK_ACCEPTED, 4002, 0);
+    weighs("a total after a roll back", UINT64_C(4294967300), NIZGULK_ACCEPTED);
+
+    /* two rows are shown now, one by the open load 4003 is not, and the word behind them is of nobody */
+    reply = nizgulk_begin(reply.state, LENT);
+    told("begin", NIZGULK_ACCEPTED, 4003);
+    reply = nizgulk_append(reply.state, LENT, &one, 1, 4003, 5);
+    told("append", NIZGULK_ACCEPTED, 3);
+    weighs("a total with a load open", UINT64_C(4294967300), NIZGULK_ACCEPTED);
+    for (p = 0; p < NIZGULK_PARTITIONS_MAX; p++) {
+        struct nizgulk_state kept = reply.state;
+        for (bit = 0; bit < 64; bit++) {
+            reply.state.totals[p] = kept.totals[p] ^ one << bit;
+            is("the number of a spoilt total", nizgulk_begin(reply.state, LENT).number, NIZGULK_UNSOUND);
+        }
+        reply.state = kept;
+    }
+    for (p = 0; p < 4; p++) {
+        uint64_t *row = &rows[NIZGULK_ROWS_MAX * reply.state.partitions.at[5].area + p];
+        for (bit = 0; bit < 64; bit++) {
+            *row ^= one << bit;
+            weighs("a row of which a bit was changed", UINT64_C(4294967300),
+                   p < 2 && bit < 32 ? NIZGULK_UNSOUND : NIZGULK_ACCEPTED);
+            *row ^= one << bit;
+        }
+    }
+
+    reply = nizgulk_clear(reply.state, LENT, 4003, 5);
+    told("clear", NIZGULK_ACCEPTED, 3);
+    reply = nizgulk_append(reply.state, LENT, &five, 1, 4003, 5);
+    told("append", NIZGULK_ACCEPTED, 4);
+    weighs("a total with a load open that clears", UINT64_C(4294967300), NIZGULK_ACCEPTED);
+    reply = nizgulk_commit(reply.state, LENT, 4003);
+    told("commit", NIZGULK_ACCEPTED, 4003);
+    weighs("a total after a clearing", 5, NIZGULK_ACCEPTED);
+    reply = nizgulk_advance_lse(reply.state, LENT, 0);
+    told("advance_lse", NIZGULK_ACCEPTED, 4003);
+    reply = nizgulk_purge(reply.state, LENT, 5);
+    told("purge", NIZGULK_ACCEPTED, 1);
+    weighs("a total after a purge", 5, NIZGULK_ACCEPTED);
+
+    memset(all, 0xff, sizeof all);
+    reply = nizgulk_create(reply.state, LENT, 5001);
+    told("making new", NIZGULK_ACCEPTED, 0);
+    weighs("a total of a store made new", 0, NIZGULK_ACCEPTED);
+    reply = nizgulk_begin(reply.state, LENT);
+    told("begin", NIZGULK_ACCEPTED, 5001);
+    reply = nizgulk_append(reply.state, LENT, all, NIZGULK_ROWS_MAX, 5001, 5);
+    told("append", NIZGULK_ACCEPTED, NIZGULK_ROWS_MAX);
+    reply = nizgulk_commit(reply.state, LENT, 5001);
+    told("commit", NIZGULK_ACCEPTED, 5001);
+    weighs("the greatest total", UINT64_C(2199023255040), NIZGULK_ACCEPTED);
+}
+
 static void bytes_of(const char *what, size_t bytes)
 {
     printf("bytes of %-24s %6lu\n", what, (unsigned long)bytes);
@@ -414,6 +508,7 @@ int main(void)
     limits();
     closes();
     reload();
+    totals();
     bytes_of("the books", sizeof want);
     bytes_of("the entries", sizeof entries - sizeof *entries);
     bytes_of("the rows", sizeof rows - sizeof *rows);
