@@ -8,13 +8,13 @@ use Rattle.lists.proofs.Laws.Bools.{split}
 use Rattle.rules.specs.Limits.{partitionsMax}
 use Rattle.rules.specs.Answers.{accepted}
 use Rattle.rules.specs.Store.{Store}
-use Rattle.rules.specs.WellFormed.{wellFormed}
+use Rattle.rules.specs.WellFormed.{sound}
 use Rattle.rules.specs.Step.{step, purge}
 use Rattle.laws.proofs.Laws.Calls.{purge-passed}
 use Rattle.laws.proofs.Laws.Sound.{refused-same}
 
 pub passed : (p : ℕ) (st : Store) → accepted (step (purge p) st .answer) ≡ true
-    → (wellFormed st ≡ true) × (p < partitionsMax)
+    → (sound st ≡ true) × (p < partitionsMax)
 unfolding step
 passed p st t = purge-passed p st t
 

@@ -13,7 +13,7 @@ use Rattle.lists.proofs.Laws.Bools.{split}
 use Rattle.rules.specs.Limits.{partitionsMax, areasMax}
 use Rattle.rules.specs.Answers.{accepted, replyOf}
 use Rattle.rules.specs.Store.{Store, partitionAt, rowsAt}
-use Rattle.rules.specs.WellFormed.{wellFormed}
+use Rattle.rules.specs.WellFormed.{sound}
 use Rattle.rules.specs.Step.{Outcome, step, purge}
 use Rattle.rules.specs.declared.Answer.{Answer}
 use Rattle.rules.specs.declared.Entry.{Entry}
@@ -21,7 +21,8 @@ use Rattle.rules.specs.declared.Kept.{Kept}
 use Rattle.laws.proofs.Laws.Calls.{purge-passed}
 use Rattle.laws.proofs.Laws.Live.{purge-live}
 use Rattle.laws.proofs.Laws.Sound.{sound-step, refused-same}
-use Rattle.laws.proofs.Laws.WellFormed.{StoreOk, store-facts}
+use Rattle.laws.proofs.Laws.WellFormed.{StoreOk}
+use Rattle.laws.proofs.Laws.Totals.{sound-facts}
 use Rattle.store.specs.Kept.{storeOf, Left, Showed}
 use Rattle.exports.specs.Words.{nowhere, placeIn, repliedAt, repliedOf, purgedOf, seenOf, Leaves, Replies, Purges}
 use Rattle.exports.specs.Words.{Shows}
@@ -38,7 +39,7 @@ replies out r rows entries left = (leaves out r nowhere rows entries left, refl,
 -- ---- a purge
 
 passed : (p : ℕ) (st : Store) → accepted (step (purge p) st .answer) ≡ true
-    → (wellFormed st ≡ true) × (p < partitionsMax)
+    → (sound st ≡ true) × (p < partitionsMax)
 unfolding step
 passed p st t = purge-passed p st t
 
@@ -50,8 +51,8 @@ module _ (st : Store) (eight : length (st .state .partitions .at) ≡ partitions
   placed : (part (place .from) (place .count) rows ≡ step (purge p) st .live)
       × (place .from + place .count ≤ length rows)
   placed = split (accepted (step (purge p) st .answer))
-      (λ t. let h = passed p st t in let ok = store-facts st eight (h .0) in
-        let after = subst StoreOk (sym (left .1)) (sound-step (purge p) st ok) in
+      (λ t. let h = passed p st t in let ok = sound-facts st eight (h .0) in
+        let after = subst StoreOk (sym (left .1)) (sound-step (purge p) st ok .shape) in
         let own = after .partition p (h .1) in let n = own .row-count in let f = own .spans-ok .rows-fit in
         let l = after .rows-length in let i = after .areas .inside p (h .1) in
         rw (left .0, t, lt-ltb (partitionAt p (storeOf (r .state) rows entries) .area) areasMax i)
