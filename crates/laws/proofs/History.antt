@@ -51,7 +51,8 @@ follows-step (create s) {st} F = both-or (createAnswer s (lengthsOk st)) F
   (λ t. let k = create-passed s (lengthsOk st) t in follows-create s st (k .sound) (k .low) (k .high))
 follows-step (manage c) F = manager-follows c F
 follows-step (append i p batch) {st} F = both-or (appendAnswer i p batch st) F
-  (λ t. let k = append-passed i p st batch (λ w h. let q = F .ok .shape .partition p h in let c = q .row-count in let n =
+  (λ t. let k = append-passed i p st batch (λ w h. let q = F .ok .shape .partition p h in let c = q .row-count in let
+      n =
       q .spans-ok .rows-fit in omega arith) t in
     follows-append F i p (k .write .partition) (k .write .pending) batch (k .rows) (k .entries))
 follows-step (clear i p) {st} F = both-or (clearAnswer i p st) F

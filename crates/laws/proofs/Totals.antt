@@ -3,11 +3,10 @@
 -- totals-stay.
 -- Assumes nothing.
 use mathlib.Core.Path.{_≡_, refl, sym, ap, _∙_}
-use mathlib.Core.Bool.{Bool, true, _&&_, cond}
-use mathlib.Core.List.{List, _∷_}
+use mathlib.Core.Bool.{true, _&&_}
+use mathlib.Core.List.{List}
 use Prim.Native.Nat.{ℕ, _<_, _≤_}
 use native.Mathlib.Omega.{arith}
-use lib.ListN.{length, getD}
 use lib.Dec.{leb}
 use borrow.Author.Tests.{le-leb}
 use Rattle.lists.specs.Lists.{elem, keepIf}
@@ -15,16 +14,15 @@ use Rattle.lists.proofs.Laws.Bools.{split}
 use Rattle.lists.proofs.Laws.Tests.{no-proof}
 use Rattle.rules.specs.Limits.{partitionsMax}
 use Rattle.rules.specs.Sees.{upTo}
-use Rattle.rules.specs.Weight.{weight, total}
-use Rattle.rules.specs.Store.{Store, managerOf, spansAt, withManager, totalAt, totalsOf, laid, laidInPlace, laidInSpare}
+use Rattle.rules.specs.Weight.{weight}
+use Rattle.rules.specs.Store.{Store, managerOf, spansAt, totalAt, laid, laidInPlace, laidInSpare}
 use Rattle.rules.specs.Store.{purgedStore}
 use Rattle.rules.specs.Answers.{accepted}
 use Rattle.rules.specs.WellFormed.{sound}
 use Rattle.rules.specs.Rewrite.{skips}
 use Rattle.rules.specs.Calls.{managerAnswer, managerAfter, appendAnswer, clearAnswer, purgeAnswer}
 use Rattle.rules.specs.Step.{Call, create, manage, append, clear, rollback, scan, purge, step}
-use Rattle.rules.specs.Ledger.{Ledger, latest, linesAt, marksOf, showsBy, withOpened, readerShows}
-use Rattle.rules.specs.Histories.{Made}
+use Rattle.rules.specs.Ledger.{Ledger, latest, linesAt, showsBy, readerShows}
 use Rattle.rules.specs.Totals.{keptTotal, shownNow, HistoryTotals, TotalsFresh, leavesTotals, TotalsStay}
 use Rattle.rules.specs.declared.ManagerCall.{ManagerCall}
 use Rattle.laws.proofs.Laws.Lines.{shows-ext}

@@ -15,7 +15,8 @@ use Rattle.rules.specs.Step.{Call, create, begin, append, clear, commit,
 use Rattle.rules.specs.Step.{advanceLse, purge, run}
 use Rattle.rules.specs.declared.Reader.{Reader}
 use Rattle.rules.specs.declared.Reader.the-variants.{Rw, Ro}
-use Rattle.rules.proofs.Look.{made, Look, linesOf, bytesTo, entriesIn, totalsLeft, Case, observed, alike, agree, agree-eq}
+use Rattle.rules.proofs.Look.{made, Look, linesOf, bytesTo, entriesIn}
+use Rattle.rules.proofs.Look.{totalsLeft, Case, observed, alike, agree, agree-eq}
 
 -- a line that is only a number, a line of 0 and a value, and that of a commit or roll back: LCE, the oldest open epoch
 only : ℕ → List ℕ
@@ -68,7 +69,8 @@ gap =
 -- 02 (iii): 5 and 7 of load 1, which landed, 9 of load 2, which is open; a row of partition 1 that load 1 cleared
 weighed : Store
 weighed =
-    run (begin ∷ append 1 0 (4294967301 ∷ 7 ∷ []) ∷ append 1 1 (3 ∷ []) ∷ clear 1 1 ∷ begin ∷ append 2 0 (9 ∷ []) ∷ commit 1
+    run (begin ∷ append 1 0 (4294967301 ∷ 7 ∷ []) ∷ append 1 1 (3 ∷ []) ∷ clear 1 1 ∷ begin ∷ append 2 0 (9 ∷ []) ∷
+        commit 1
       ∷ []) (made 1)
 
 -- its rows, from row i on, or its totals, overwritten
@@ -140,7 +142,8 @@ edges =
     ∷ case (made 1) (begin ∷ append 1 0 (replicate 512 18446744073709551615) ∷ commit 1 ∷ []) totalsLeft
       (totals 2199023255040 ∷ [])
     -- it moves with roll back as with commit, a clearing that lands takes out what it hides, and purge leaves it
-    ∷ case (made 1) (begin ∷ begin ∷ append 1 0 (4 ∷ []) ∷ append 2 0 (8 ∷ []) ∷ commit 2 ∷ []) totalsLeft (totals 0 ∷ [])
+    ∷ case (made 1) (begin ∷ begin ∷ append 1 0 (4 ∷ []) ∷ append 2 0 (8 ∷ []) ∷ commit 2 ∷ []) totalsLeft (totals 0
+        ∷ [])
     ∷ case (made 1) (begin ∷ begin ∷ append 1 0 (4 ∷ []) ∷ append 2 0 (8 ∷ []) ∷ commit 2 ∷ rollback 1 ∷ []) totalsLeft
       (totals 8 ∷ [])
     ∷ case (made 1) (begin ∷ append 1 0 (4 ∷ []) ∷ commit 1 ∷ begin ∷ clear 2 0 ∷ append 2 0 (6 ∷ []) ∷ []) totalsLeft

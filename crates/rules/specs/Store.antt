@@ -3,7 +3,7 @@
 -- purge into the spare area.
 -- Laws: laws/proofs/Laws/Store.antt.
 -- Assumes nothing.
-use mathlib.Core.Bool.{Bool, cond}
+use mathlib.Core.Bool.{cond}
 use mathlib.Core.List.{List, [], _∷_, map}
 use Prim.Native.Nat.{ℕ, zero, suc, _*_}
 use lib.ListN.{length, getD, set, replicate}

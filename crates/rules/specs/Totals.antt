@@ -1,6 +1,6 @@
 -- Standing totals, as statements: the total that the books keep for each partition (01: lot). 02 (iii).
--- In order: after every history it is what the ledger shows a page that is opened now; after every call on a sound store
--- it is the sum worked out afresh; the calls that leave it as it was.
+-- In order: after every history it is what the ledger shows a page that is opened now; after every call on a sound
+-- store it is the sum worked out afresh; the calls that leave it as it was.
 -- Proofs: laws/proofs/Totals.antt.
 -- Assumes nothing.
 use mathlib.Core.Path.{_≡_}
@@ -15,7 +15,6 @@ use Rattle.rules.specs.WellFormed.{sound}
 use Rattle.rules.specs.Step.{Call, create, manage, append, clear, rollback, scan, purge, step}
 use Rattle.rules.specs.Ledger.{Ledger, withOpened, readerShows}
 use Rattle.rules.specs.Histories.{Made, storeAfter, ledgerAfter}
-use Rattle.rules.specs.declared.ManagerCall.{ManagerCall}
 use Rattle.rules.specs.declared.ManagerCall.the-variants.{Begin, Commit, BeginRo, EndRo, AdvanceLse}
 
 -- the total that the books keep for partition p

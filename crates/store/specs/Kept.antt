@@ -1,5 +1,6 @@
 -- What a call by value keeps, and what a public call leaves, beside rules' step.
--- In order: storeOf, Left, Showed, the calls on the manager, a roll back's part, the totals. Laws: proofs/Laws/Kept.antt.
+-- In order: storeOf, Left, Showed, the calls on the manager, a roll back's part, the totals. Laws:
+-- proofs/Laws/Kept.antt.
 -- Assumes nothing.
 use mathlib.Core.Path.{_≡_}
 use mathlib.Core.Bool.{Bool, _&&_, cond}
@@ -14,7 +15,7 @@ use Rattle.rules.specs.Step.{Outcome}
 use Rattle.rules.specs.declared.Answer.{Answer}
 use Rattle.rules.specs.declared.ManagerCall.{ManagerCall}
 use Rattle.rules.specs.declared.Entry.{Entry}
-use Rattle.rules.specs.Manager.{Manager, managerIn}
+use Rattle.rules.specs.Manager.{managerIn}
 use Rattle.rules.specs.declared.State.{State}
 use Rattle.txn.specs.Kept.{keptOf}
 use Rattle.partition_sound.specs.Asked.{lengthsAre}

@@ -1,12 +1,7 @@
 -- The crate's types as a walk takes them: some epochs, the greatest clearing, what it leaves, where a weighing stands,
--- the totals of all partitions, and what a landing is given.
+-- and what a landing is given.
 -- Assumes nothing.
 use mathlib.Core.Path.{refl}
-use mir.Syntax.{w64, tyInt, tyArray}
-use denote.Array.{Array, array-vals, array-tells, array-lawful, array-makes}
-use denote.Builtin.{u64}
-use denote.Plain.{uint-vals, uint-tells, uint-lawful, uint-makes}
-use denote.Steps.{only}
 use denote.Struct.Laws as LL
 use Rattle.walks.proofs.Shown.{Shown}
 use Rattle.totals.proofs.Reach as R
@@ -43,13 +38,6 @@ tally = record {
   row = Y.the-row; mir = Y′.mir; val = LL.val Y.the-type Y′.the-laws; tells = LL.tells Y.the-type Y′.the-laws;
   wt = λ 𝓤 H A G z g. LL.lawful Y.the-type Y′.the-laws 𝓤 H A G .typed z _ g .0; last = λ x. tt;
   silent = λ x f. refl; makes = λ 𝓤 H A _. LL.makes Y.the-type Y′.the-plain 𝓤 H A }
-
-abbrev pub totals : Shown
-totals = record {
-  row = Array u64 8; mir = tyArray (tyInt w64) 8; val = λ xs. only (array-vals (uint-vals w64) xs);
-  tells = array-tells u64 (uint-vals w64) (uint-tells w64) 8;
-  wt = λ 𝓤 H A G z g. array-lawful 𝓤 H A G u64 (uint-lawful 𝓤 H A G w64) 8 .typed z _ g .0; last = λ x. tt;
-  silent = λ x f. refl; makes = λ 𝓤 H A G. array-makes 𝓤 H A G u64 (uint-makes 𝓤 H A G w64) 8 }
 
 abbrev pub landing : Shown
 landing = record {

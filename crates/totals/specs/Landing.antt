@@ -2,7 +2,7 @@
 -- In order: one partition, the partitions below k, all. Laws: proofs/Laws/Lands.antt (of a sound store they are those
 -- worked out afresh).
 -- Assumes nothing.
-use mathlib.Core.Bool.{Bool, cond}
+use mathlib.Core.Bool.{cond}
 use mathlib.Core.List.{List}
 use Prim.Native.Nat.{ℕ, zero, suc, _-_}
 use lib.ListN.{getD, set}

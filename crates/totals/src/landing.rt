@@ -1,4 +1,5 @@
-// The totals brought up to date where LCE has moved (02 (iii)): the rows of the epochs between are weighed, and no others.
+// The totals brought up to date where LCE has moved (02 (iii)): the rows of the epochs between are weighed, and no
+// others.
 use crate::Cut;
 use crate::Reach;
 use crate::Tally;

@@ -19,15 +19,15 @@ pub struct Reach {
     pub gone: u64,
 }
 
-// The greatest clearing of a partition among such epochs: its epoch, and the row that the last one of it stands at; both
-// 0 with none.
+// The greatest clearing of a partition among such epochs: its epoch, and the row that the last one of it stands at;
+// both 0 with none.
 pub struct Top {
     pub epoch: u64,
     pub edge: usize,
 }
 
-// Which rows are shown by it: those of epochs up to `high`, but for `gone`, and above `low`, or of `low` from row `edge`
-// on. The rows of the partition stand from row `base` on.
+// Which rows are shown by it: those of epochs up to `high`, but for `gone`, and above `low`, or of `low` from row
+// `edge` on. The rows of the partition stand from row `base` on.
 pub struct Cut {
     pub low: u64,
     pub edge: usize,

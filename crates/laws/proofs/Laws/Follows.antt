@@ -95,7 +95,8 @@ module _ {st : Store} {g : Ledger} (F : Follows st g) where
             j))))
 
   pub follows-commit : (i : ℕ) → hasOpen i (managerOf st) ≡ true
-      → Follows (refreshed (withManager (committedManager i (managerOf st)) st)) (withOpenRw (i ∷ g .committed) (without i (g
+      → Follows (refreshed (withManager (committedManager i (managerOf st)) st)) (withOpenRw (i ∷ g .committed)
+          (without i (g
           .writers)) g)
   unfolding committedManager settled
   follows-commit i o = let m = managerOf st in let g′ = withOpenRw (i ∷ g .committed) (without i (g .writers)) g in
@@ -106,14 +107,16 @@ module _ {st : Store} {g : Ledger} (F : Follows st g) where
       → snapshotEpoch e (managerOf st) ≤ managerOf st .clock .lce → (managerOf st .readers .next ≡ suc lastTicket →
           ⊥)
       → managerOf st .readers .count < readersMax
-      → Follows (refreshed (withManager (begunRoManager e (managerOf st)) st)) (withOpened e (managerOf st .readers .next) g)
+      → Follows (refreshed (withManager (begunRoManager e (managerOf st)) st)) (withOpened e (managerOf st .readers
+          .next) g)
   unfolding begunRoManager
   follows-begin-ro e low high last room = let m = managerOf st in
       with-manager (begunRoManager e m) (withOpened e (m .readers .next) g) (tracks-begin-ro (F .tracks) e low high
           last room) refl
       (λ j q. begunRo-epochOk e m j ∙ q) (λ ss ls P. P)
 
-  pub follows-end-ro : (t : ℕ) → Follows (refreshed (withManager (endedRoManager t (managerOf st)) st)) (withOpenRo (without t
+  pub follows-end-ro : (t : ℕ) → Follows (refreshed (withManager (endedRoManager t (managerOf st)) st)) (withOpenRo
+      (without t
       (g .readers)) g)
   unfolding endedRoManager
   follows-end-ro t = let m = managerOf st in
@@ -169,7 +172,8 @@ module _ {st : Store} {g : Ledger} (F : Follows st g) where
         → linesOf ss ≡ linesOf (spansAt p st) ++ ys
         → AllLines (λ x. markOf x ≡ i) ys → Follows st′ (withAdded p ys g)
     added ss st′ ys C t e a = let w = tracks-writer (F .tracks) i o in
-        changed p h ss st′ C (sound-added st (F .ok) i p ss st′ ys o C t e a) (linesAt p g ++ ys) (follows-added (F .partition p h) i ss ys (w .1) (w .2) (w .0) e a)
+        changed p h ss st′ C (sound-added st (F .ok) i p ss st′ ys o C t e a) (linesAt p g ++ ys) (follows-added (F
+            .partition p h) i ss ys (w .1) (w .2) (w .0) e a)
 
     pub follows-append : (batch : List ℕ) → partitionAt p st .rows + length batch ≤ rowsMax
         → length (appended i batch (spansAt p st)) ≤ entriesMax

@@ -98,7 +98,8 @@ unfolding cleared linesOf
 lines-cleared i ss = lines-append ss (deleteSpan i ∷ [])
 
 -- marks that are the spans' epochs
-pub All-lines : (P : ℕ → Type 0) (ss : List Span) → All (λ s. P (s .epoch)) ss → AllLines (λ x. P (markOf x)) (linesOf ss)
+pub All-lines : (P : ℕ → Type 0) (ss : List Span) → All (λ s. P (s .epoch)) ss → AllLines (λ x. P (markOf x))
+    (linesOf ss)
 unfolding linesOf
 All-lines P ss h = All-gather (λ x. P (markOf x)) spanLines ss (All-imp _ _ (span-marks P) ss h)
 

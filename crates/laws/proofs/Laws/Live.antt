@@ -45,7 +45,8 @@ pub purge-live : (p : ℕ) (st : Store) → SoundOk st → p < partitionsMax
 unfolding step purgeAnswer purgedStore
 purge-live p st ok h =
     let l = managerOf st .clock .lse in let ss = spansAt p st in let q = partitionAt p st in
-    let k = ok .shape .partition p h in let c = k .row-count in let f = k .spans-ok .rows-fit in let w = words-purged l ss in
+    let k = ok .shape .partition p h in let c = k .row-count in let f = k .spans-ok .rows-fit in let w = words-purged
+        l ss in
     rw (sound-ok st ok, lt-leb partitionsMax p h) (split (skips l ss)
       (λ t. rw t (take-part (rowsMax * q .area) rowsMax (q .rows) (st .rows) (omega arith)))
       (λ u. let ts = purged l ss in let n = ok .shape .places in rw (u, partition-rewritten p ts st (omega arith))

@@ -1,7 +1,7 @@
 -- The calls on the manager: all that demand 3 and the promises want of each. Definitions: rules/specs/Calls.antt
 -- `managerAnswer`, `managerAfter`, rules/specs/Claim.antt `eventOf`. In order: it answers no 5 on a sound manager;
--- accepted, it keeps a store sound; what it does to LCE; the ledger follows it; it keeps the snapshot of a reader that it does not close,
--- and all lines.
+-- accepted, it keeps a store sound; what it does to LCE; the ledger follows it; it keeps the snapshot of a reader
+-- that it does not close, and all lines.
 -- Assumes nothing.
 use mathlib.Core.Path.{_≡_, refl, _∙_}
 use mathlib.Core.Bool.{Bool, true, false, not, cond}

@@ -113,7 +113,8 @@ module _ (p : ℕ) (st : Store) (ok : SoundOk st) (r : Reader) (o : isReader r (
   -- the partition's spans once purged
   rewritten : showsTo r (managerOf st) (cond (skips lse ss) ss (purged lse ss)) ≡ spansShow r p st
   rewritten = let m = managerOf st in split (skips lse ss) (λ t. rw t) (λ f. rw (f, lines-purged lse ss)
-      (shows-purge lse (seesOf r m) (appliesOf r m) (low-sees m (ok .shape .manager) r o) (low-applies m (ok .shape .manager) r o)
+      (shows-purge lse (seesOf r m) (appliesOf r m) (low-sees m (ok .shape .manager) r o) (low-applies m (ok .shape
+          .manager) r o)
         (linesOf ss)))
 
   purged-shows : p < partitionsMax → (q : ℕ) → q < partitionsMax

@@ -164,7 +164,8 @@ sound-answers c st ok = eqb-false (replyOf (step c st .answer) .number) 5 (answe
 -- 01: the value 0 means the greatest target that is not held, so it is never refused
 pub target-zero-accepted : (st : Store) → SoundOk st → replyOf (step (advanceLse 0) st .answer) .number ≡ 0
 unfolding step advanceLseAnswer
-target-zero-accepted st ok = let m = managerOf st in let t = targetOf 0 m in let g = target-zero m (ok .shape .manager) in
+target-zero-accepted st ok = let m = managerOf st in let t = targetOf 0 m in let g = target-zero m (ok .shape
+    .manager) in
     rw (sound-ok st ok, le-leb (m .clock .lse) t (g .low), le-leb t (m .clock .lce) (g .high), g .free)
 
 -- ---- a refused call

@@ -20,7 +20,7 @@ use Rattle.rules.specs.Hides.{hidden, flagsIn, flags}
 use Rattle.rules.specs.Top.{Top, noTop, topStep, topFrom, topDelete, covers, flagsBy}
 
 -- by order of two numbers
-order : {P : Type 0} (j e : ℕ) → (j < e → P) → (j ≡ e → P) → (e < j → P) → P
+pub order : {P : Type 0} (j e : ℕ) → (j < e → P) → (j ≡ e → P) → (e < j → P) → P
 order j e lt eq gt = split (ltb j e) (λ t. lt (ltb-true j e t)) (λ f. let g = ltb-false j e f in
     split (eqb j e) (λ t. eq (eqb-true j e t)) (λ n. gt (let h = eqb-false j e n in omega arith)))
 

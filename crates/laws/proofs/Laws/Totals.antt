@@ -4,7 +4,7 @@
 -- Assumes nothing.
 use mathlib.Core.Path.{_≡_, refl, sym, ap, subst, _∙_}
 use mathlib.Core.Bool.{Bool, true, _&&_, cond}
-use mathlib.Core.List.{List, [], _∷_, _++_, map}
+use mathlib.Core.List.{List, _++_, map}
 use Prim.Native.Nat.{ℕ, zero, suc, _<_}
 use native.Mathlib.Omega.{arith}
 use lib.ListN.{length, getD}
@@ -117,7 +117,8 @@ tests-same : (t u : ℕ → Bool) → ((p : ℕ) → p < partitionsMax → t p �
     → t 0 && (t 1 && (t 2 && (t 3 && (t 4 && (t 5 && (t 6 && (t 7 && true)))))))
       ≡ u 0 && (u 1 && (u 2 && (u 3 && (u 4 && (u 5 && (u 6 && (u 7 && true)))))))
 tests-same t u h = let e : (p : ℕ) → p < partitionsMax → t p ≡ u p = h in
-    rw (e 0 (omega arith), e 1 (omega arith), e 2 (omega arith), e 3 (omega arith), e 4 (omega arith), e 5 (omega arith),
+    rw (e 0 (omega arith), e 1 (omega arith), e 2 (omega arith), e 3 (omega arith), e 4 (omega arith), e 5 (omega
+        arith),
       e 6 (omega arith), e 7 (omega arith))
 
 pub totals-refreshed : (st : Store) → totalsOk (refreshed st) ≡ true
@@ -188,4 +189,5 @@ module _ (st : Store) (ok : SoundOk st) where
   pub sound-purged : (p : ℕ) → p < partitionsMax → SoundOk (purgedStore p st)
   sound-purged p h = let C = purge-changed st (ok .shape) p h (purged-epochOk m (ok .shape .manager)) in
       record { shape = C .sound;
-        totals = totals-changed p (purgedSpans p) st (purgedStore p st) C (purged-totals p) (purged-total p) (ok .totals) }
+        totals = totals-changed p (purgedSpans p) st (purgedStore p st) C (purged-totals p) (purged-total p) (ok
+            .totals) }

@@ -3,14 +3,14 @@
 -- In order: by lines; the most; append and clear above the epoch; purge; roll back; epochs that land.
 -- Assumes nothing.
 use mathlib.Core.Path.{_≡_, refl, sym, _∙_, ap}
-use mathlib.Core.Bool.{Bool, true, false, not, _&&_, _||_, cond}
+use mathlib.Core.Bool.{Bool, true, false, not, _&&_, _||_, cond, or-true, or-assoc}
 use mathlib.Core.List.{List, [], _∷_, _++_}
 use Prim.Native.Nat.{ℕ, _+_, _*_, _≤_, _<_}
 use native.Mathlib.Omega.{arith}
 use lib.Dec.{ltb, leb, eqb}
 use lib.ListN.{length, length-append}
 use borrow.Author.Tests.{eqb-true, ltb-true, leb-true, leb-false, lt-ltb, le-leb, lt-leb}
-use Rattle.lists.proofs.Laws.All.{All-imp, anyOf-ext}
+use Rattle.lists.proofs.Laws.All.{All-imp, anyOf-ext, anyOf-or}
 use Rattle.lists.specs.Lists.{anyOf}
 use Rattle.lists.proofs.Laws.Bools.{split, and-false, or-false}
 use Rattle.rules.specs.Span.{Span, isDelete, wordsOf}
@@ -83,26 +83,8 @@ total-rolledBack e i ss =
       ∙ (ap weight (shows-keep (λ j. not (eqb j i)) (upTo e) (upTo e) (linesOf ss))
       ∙ sym (weight-lines (λ j. not (eqb j i) && leb j e) ss)))
 
--- ---- epochs that land: s sees those up to l, and those of d, which are above l. A delete that lands takes out what was
--- there, and what lands comes on top
-
-or-true : (b : Bool) → b || true ≡ true
-or-true true = refl
-or-true false = refl
-
-or-assoc : (a b c : Bool) → (a || b) || c ≡ a || (b || c)
-or-assoc true b c = refl
-or-assoc false b c = refl
-
-anyOf-or : {A : Type 0} (p q : A → Bool) (xs : List A) → anyOf (λ x. p x || q x) xs ≡ anyOf p xs || anyOf q xs
-anyOf-or p q [] = refl
-anyOf-or p q (x ∷ xs) = rw (anyOf-or p q xs) (regroup (p x) (q x) (anyOf p xs) (anyOf q xs))
-  where
-    regroup : (a b c d : Bool) → (a || b) || (c || d) ≡ (a || c) || (b || d)
-    regroup true b c d = refl
-    regroup false true true d = refl
-    regroup false true false d = refl
-    regroup false false c d = refl
+-- ---- epochs that land: s sees those up to l, and those of d, which are above l. A delete that lands takes out what
+-- was there, and what lands comes on top
 
 weight-cond : (b : Bool) (w : ℕ) (xs : List ℕ) → weight (cond b (w ∷ xs) xs) ≡ cond b (milligrams w) 0 + weight xs
 unfolding weight
@@ -116,7 +98,8 @@ module _ (l : ℕ) (s d : ℕ → Bool) (above : (j : ℕ) → d j ≡ true → 
   -- of marks up to l: each delete that lands hides them
   later-low : (j : ℕ) → j ≤ l → (xs : List Line) → AllLines Lands xs
       → anyDelete (both s (ltb j)) xs ≡ anyDelete d xs || anyDelete (both (upTo l) (ltb j)) xs
-  later-low j h xs a = anyOf-ext _ _ xs (All-imp _ _ one xs a) ∙ anyOf-or (deletes d) (deletes (both (upTo l) (ltb j))) xs
+  later-low j h xs a = anyOf-ext _ _ xs (All-imp _ _ one xs a) ∙ anyOf-or (deletes d) (deletes (both (upTo l) (ltb
+      j))) xs
     where
       one : (x : Line) → Lands x → deletes (both s (ltb j)) x ≡ deletes d x || deletes (both (upTo l) (ltb j)) x
       one (row i w) q = refl
@@ -176,7 +159,8 @@ module _ (l : ℕ) (s d : ℕ → Bool) (above : (j : ℕ) → d j ≡ true → 
           weight-cond (leb j l && not c) w (showsIn (upTo l) (upTo l) all xs),
           weight-cond (d j && not (concealed d all xs j)) w (showsIn d d all xs), ih)
         (split (leb j l)
-          (λ t. let h = leb-true j l t in rw (b .0, t, unlanded j h, concealed-low j h xs (b .1)) (low-row taken c w rest more))
+          (λ t. let h = leb-true j l t in rw (b .0, t, unlanded j h, concealed-low j h xs (b .1)) (low-row taken c w
+              rest more))
           (λ f. let h = leb-false j l f in rw (b .0, f, concealed-high j h xs (b .1))
             (split taken (λ t. rw t (swap (cond (d j && not (concealed d all xs j)) (milligrams w) 0) 0 more))
               (λ u. rw u (swap-0 (cond (d j && not (concealed d all xs j)) (milligrams w) 0) rest more)))))

@@ -3,16 +3,16 @@
 -- Definitions: specs/Rest.antt, specs/Asked.antt.
 -- Assumes nothing.
 use mathlib.Core.Path.{_≡_, refl, sym, ap, subst, _∙_}
-use mathlib.Core.Bool.{Bool, true, false, not, _&&_, _||_, cond}
+use mathlib.Core.Bool.{Bool, true, false, _&&_}
 use mathlib.Core.List.{List, [], _∷_, foldl}
-use Prim.Native.Nat.{ℕ, zero, suc, _+_, _*_, _-_, _≤_, _<_}
+use Prim.Native.Nat.{ℕ, zero, suc, _*_, _-_, _≤_, _<_}
 use native.Mathlib.Omega.{arith}
 use lib.ListN.{length, take, drop, getD}
 use lib.Dec.{ltb, leb, eqb}
 use borrow.Author.Tests.{leb-true, ltb-true, ltb-false, eqb-true, le-leb, lt-ltb, ne-eqb}
 use Rattle.lists.specs.Lists.{allOf, anyOf, part}
 use Rattle.lists.proofs.Laws.All.{All, All-imp, All-allOf, allOf-All, All-getD, getD-All, All-anyOf}
-use Rattle.lists.proofs.Laws.Bools.{split, split-eq, and-left, and-right, and-both, and-true, and-false}
+use Rattle.lists.proofs.Laws.Bools.{split, split-eq, both-ways, and-left, and-right, and-both, and-true, and-false}
 use Rattle.lists.proofs.Laws.Tests.{and-comm}
 use Rattle.rules.specs.Limits.{rowsMax, entriesMax, areasMax, partitionsMax}
 use Rattle.rules.specs.Span.{Span, spans}
@@ -49,11 +49,6 @@ use Rattle.partition_sound.specs.declared.Last.{Last}
 use Rattle.partition_sound.proofs.Laws.Pass.{pass-chains, pass-cleared}
 use Rattle.partition_sound.proofs.Laws.Sound.{partitionOkBy-pass, partitionOkBy-many}
 
-both-ways : (b c : Bool) → (b ≡ true → c ≡ true) → (c ≡ true → b ≡ true) → b ≡ c
-both-ways true c f g = sym (f refl)
-both-ways false true f g = g refl
-both-ways false false f g = refl
-
 -- a partition that is well, by its parts
 record Parts (c : Clock) (js : List ℕ) (es : List Entry) (q : Partition) : Type 0 where
   fits : q .rows ≤ rowsMax
@@ -61,7 +56,8 @@ record Parts (c : Clock) (js : List ℕ) (es : List Entry) (q : Partition) : Typ
   ends : endsOk (q .rows) 0 (part (entriesMax * q .area) (q .entries) es) ≡ true
   low : All (λ e. 1 ≤ e .epoch) (part (entriesMax * q .area) (q .entries) es)
 
-parts-of : (c : Clock) (js : List ℕ) (es : List Entry) (q : Partition) → partitionOkBy c js es q ≡ true → Parts c js es q
+parts-of : (c : Clock) (js : List ℕ) (es : List Entry) (q : Partition) → partitionOkBy c js es q ≡ true → Parts c js
+    es q
 unfolding partitionOkBy epochOkBy
 parts-of c js es q h =
     let own = part (entriesMax * q .area) (q .entries) es in let x = leb (q .rows) rowsMax in
@@ -70,7 +66,8 @@ parts-of c js es q h =
     let xy = and-left (x && y) e xye in record {
       fits = leb-true (q .rows) rowsMax (and-left x y xy); few = leb-true (q .entries) entriesMax (and-right x y xy);
       ends = and-right (x && y) e xye;
-      low = All-imp _ _ (λ d g. leb-true 1 (d .epoch) (and-left _ _ (and-left _ _ (and-right (leb (d .mark) 1) _ g)))) own
+      low = All-imp _ _ (λ d g. leb-true 1 (d .epoch) (and-left _ _ (and-left _ _ (and-right (leb (d .mark) 1) _
+          g)))) own
         (All-allOf (entryOkBy c js) own (and-right (x && y && e) o xyeo)) }
 
 -- no delete, no greatest one
@@ -196,7 +193,8 @@ module _ (es : List Entry) (rows : List ℕ) (a : Asked) where
 
       cleared-is : lastAt q .cleared ≡ anyOf (λ e. eqb (e .mark) 1) own
       cleared-is = ap (λ (s : Last). s .cleared) (last-is counted)
-          ∙ pass-cleared (a .clock) (a .count) (a .epochs) own (sym (ap (λ (s : Last). s .ok) (last-is counted)) ∙ all-well)
+          ∙ pass-cleared (a .clock) (a .count) (a .epochs) own (sym (ap (λ (s : Last). s .ok) (last-is counted)) ∙
+              all-well)
 
       top-is : topAt q ≡ foldl (topTurn (reachOf a)) noTop own
       unfolding clearedTo turned
@@ -209,7 +207,8 @@ module _ (es : List Entry) (rows : List ℕ) (a : Asked) where
       unfolding spansOf
       weighed-is = rw (top-is, end-is, lot-turned es q (placed counted) (tallyTurn rows (landCut (reachOf a) q (foldl
           (topTurn (reachOf a)) noTop own))) noTally)
-          (lot-weighs es rows q lies (reachOf a) ∙ page-weighs (a .lce) (spans 0 own ws) (epochs-spans 0 own ws (parts .low)))
+          (lot-weighs es rows q lies (reachOf a) ∙ page-weighs (a .lce) (spans 0 own ws) (epochs-spans 0 own ws
+              (parts .low)))
 
     judged-is : (ok : Bool) (p : ℕ) → p < partitionsMax
         → judgedOf rows ok (a .totals) p q (lastAt q) (cutAt q) (tallyAt q) ≡ ok && (okBy q && weighsBy p q)
@@ -260,7 +259,8 @@ module _ (es : List Entry) (rows : List ℕ) (a : Asked) where
               (and-right (okBy (placeAt p)) (weighsBy p (placeAt p)) (e p l))))))
         (λ t. each-upto (λ p l. and-both (okBy (placeAt p)) (weighsBy p (placeAt p))
           (All-getD (λ q. okBy q ≡ true) noPartition (a .partitions .at)
-            (All-allOf okBy (a .partitions .at) (and-left (allOf okBy (a .partitions .at)) _ t)) p (omega (arith, eight, l)))
+            (All-allOf okBy (a .partitions .at) (and-left (allOf okBy (a .partitions .at)) _ t)) p (omega (arith,
+                eight, l)))
           (subst (λ q. weighsBy q (placeAt q) ≡ true) (own-area p l)
             (All-getD (λ q. weighsBy q (placeAt q) ≡ true) 0 partitionNumbers (All-allOf (λ q. weighsBy q (placeAt q))
               partitionNumbers (and-right (allOf okBy (a .partitions .at)) _ t)) p l))) partitionsMax (omega arith))
@@ -277,6 +277,7 @@ module _ (es : List Entry) (rows : List ℕ) (a : Asked) where
       (λ t. let l = and-left (lengthsAre (length es) (length rows)) (areasOk (a .partitions)) t in
         let r = and-right (lengthsAre (length es) (length rows)) (areasOk (a .partitions)) t in
         let lr = eqb-true (length rows) (rowsMax * areasMax) (and-left (eqb (length rows) (rowsMax * areasMax)) _ l) in
-        let le = eqb-true (length es) (entriesMax * areasMax) (and-right (eqb (length rows) (rowsMax * areasMax)) _ l) in
+        let le = eqb-true (length es) (entriesMax * areasMax) (and-right (eqb (length rows) (rowsMax * areasMax)) _
+            l) in
         rw t (all-good le lr eight (areas-facts (a .partitions) eight r .inside)))
       (λ n. rw n (never partitionsMax))

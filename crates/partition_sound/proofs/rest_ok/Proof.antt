@@ -68,7 +68,8 @@ use Rattle.totals.specs.declared.Reach.{Reach}
 use Rattle.totals.specs.declared.Top.{Top}
 use Rattle.totals.specs.declared.Cut.{Cut}
 use Rattle.totals.specs.declared.Tally.{Tally}
-use Rattle.totals.proofs.Types.{reach, top, cut, tally, totals}
+use Rattle.shapes.proofs.Core.{totals}
+use Rattle.totals.proofs.Types.{reach, top, cut, tally}
 use Rattle.partition_sound.specs.Pass.{stepOf}
 use Rattle.partition_sound.specs.Rest.{heldOf, startOf, begins, reachOf, weighedTo, clearedTo, judgedOf}
 use Rattle.partition_sound.specs.declared.Asked.{Asked}

@@ -1,19 +1,17 @@
 -- What the calls by value keep is what step leaves. Definitions: specs/Kept.antt.
 -- Assumes nothing.
 use mathlib.Core.Path.{_≡_, refl, sym}
-use mathlib.Core.Bool.{Bool, true, false, _&&_, cond}
+use mathlib.Core.Bool.{Bool, true, false, _&&_}
 use mathlib.Core.List.{List}
 use Prim.Native.Nat.{ℕ}
 use lib.ListN.{length}
 use Rattle.lists.proofs.Laws.Bools.{split}
-use Rattle.lists.proofs.Laws.Tests.{and-comm}
 use Rattle.rules.specs.Answers.{accepted}
 use Rattle.rules.specs.WellFormed.{sound, totalsOk, lengthsOk, managerOk}
 use Rattle.rules.specs.Calls.{createAnswer, managerAnswer, managerAfter}
 use Rattle.rules.specs.Step.{step, create, manage}
 use Rattle.rules.specs.Store.{Store, spansAt, totalAt, totalsOf, stateOf, createdStore}
 use Rattle.rules.specs.Limits.{partitionsMax}
-use Rattle.rules.specs.declared.Answer.{Answer}
 use Rattle.rules.specs.declared.ManagerCall.{ManagerCall}
 use Rattle.rules.specs.declared.Entry.{Entry}
 use Rattle.rules.specs.Manager.{Manager, managerIn}
@@ -23,7 +21,6 @@ use Rattle.partition_sound.specs.Sound.{partitionsOk}
 use Rattle.partition_sound.specs.Asked.{askedOf, lengthsAre, spansOf, totalsAre, restOk, restAsked}
 use Rattle.partition_sound.proofs.Laws.Asked.{rest-asked}
 use Rattle.partition_sound.proofs.Laws.Sound.{wellFormed-is}
-use Rattle.txn.specs.Kept.{keptOf}
 use Rattle.laws.proofs.Laws.ManagerCalls.{manager-passed, lce-rises, lce-stays}
 use Rattle.laws.proofs.Laws.Totals.{sound-facts, totals-still}
 use Rattle.totals.proofs.Laws.Lands.{lands-commit}
@@ -66,7 +63,8 @@ module _ (s : State) (n : length (s .partitions .at) ≡ partitionsMax) (n′ : 
   unfolding step
   manage-left c h = let e = lce-stays c m h in rw (sound-is s es rs) (split (accepted (managerAnswer c (sound st) m))
       (λ t. let ok = sound-facts st n (manager-passed c (sound st) m t) in
-        rw t (refl, λ j. storeOf (stateOf (managerAfter c m) (s .partitions) (sym (totals-still st ok n′ (managerAfter c m) e)
+        rw t (refl, λ j. storeOf (stateOf (managerAfter c m) (s .partitions) (sym (totals-still st ok n′
+            (managerAfter c m) e)
           j)) rs es))
       (λ f. rw f (refl, refl)))
 
@@ -76,7 +74,8 @@ module _ (s : State) (n : length (s .partitions .at) ≡ partitionsMax) (n′ : 
   unfolding step totalsOf totalAt spansAt
   manage-lands c = let up = lce-rises c m in rw (sound-is s es rs) (split (accepted (managerAnswer c (sound st) m))
       (λ t. let ok = sound-facts st n (manager-passed c (sound st) m t) in
-        rw t (refl, λ j. storeOf (stateOf (managerAfter c m) (s .partitions) (lands-commit st ok n′ (managerAfter c m .clock
+        rw t (refl, λ j. storeOf (stateOf (managerAfter c m) (s .partitions) (lands-commit st ok n′ (managerAfter c m
+            .clock
           .lce) up j)) rs es))
       (λ f. rw f (refl, refl)))
 

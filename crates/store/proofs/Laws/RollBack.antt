@@ -1,4 +1,5 @@
--- What a roll back leaves is what step leaves. Definitions: specs/Kept.antt `rollBackKept`, `totalsKept`, specs/Done.antt.
+-- What a roll back leaves is what step leaves. Definitions: specs/Kept.antt `rollBackKept`, `totalsKept`,
+-- specs/Done.antt.
 -- In order: the areas and partitions after it; the totals; the call.
 -- Assumes nothing.
 use mathlib.Core.Path.{_≡_, refl, sym, ap, _∙_}
@@ -7,7 +8,8 @@ use mathlib.Core.List.{List}
 use Prim.Native.Nat.{ℕ, _≤_, _<_}
 use lib.ListN.{length}
 use Rattle.lists.proofs.Laws.Bools.{split}
-use Rattle.rules.specs.Store.{Store, spansAt, totalAt, totalsOf, stateOf, withPartitionsIn, withManager, rolledBackBelow}
+use Rattle.rules.specs.Store.{Store, spansAt, totalAt, totalsOf}
+use Rattle.rules.specs.Store.{stateOf, withPartitionsIn, withManager, rolledBackBelow}
 use Rattle.rules.specs.Manager.{Manager, managerIn, writersOf, hasOpen}
 use Rattle.rules.specs.Limits.{partitionsMax}
 use Rattle.rules.specs.Close.{droppedTxns, settled, rolledBackManager}

@@ -1,37 +1,39 @@
--- The totals of a sound store once some epochs have landed are those worked out afresh. Definitions: specs/Landing.antt.
+-- The totals of a sound store once some epochs have landed are those worked out afresh. Definitions:
+-- specs/Landing.antt.
 -- In order: one partition; all of them; commit; roll back.
 -- Assumes nothing.
 use mathlib.Core.Path.{_≡_, refl, sym, ap, _∙_}
 use mathlib.Core.Bool.{Bool, true, false, not, _&&_, _||_, cond}
-use mathlib.Core.List.{List, [], _∷_, map, foldl}
+use mathlib.Core.List.{List, map, foldl}
 use Prim.Native.Nat.{ℕ, zero, suc, _+_, _-_, _*_, _≤_, _<_}
 use native.Mathlib.Omega.{arith}
-use lib.ListN.{length, getD, set, length-set, length-map}
+use lib.ListN.{length, getD, length-set}
 use lib.Seq.{getD-set-same, getD-set-other, ext-getD}
 use lib.Dec.{ltb, leb, eqb}
-use borrow.Author.Tests.{ltb-true, ltb-false, leb-true, leb-false, eqb-true, lt-ltb, le-ltb, le-leb, lt-leb, ne-eqb, eq-eqb}
+use borrow.Author.Tests.{ltb-true, ltb-false, leb-true, leb-false, eqb-true}
+use borrow.Author.Tests.{lt-ltb, le-ltb, le-leb, lt-leb, ne-eqb, eq-eqb}
 use Rattle.lists.specs.Lists.{anyOf, part}
-use Rattle.lists.proofs.Laws.All.{All, All-imp, All-every}
+use Rattle.lists.proofs.Laws.All.{All-imp, All-every}
 use Rattle.lists.proofs.Laws.Bools.{split, split-eq, and-left, and-true, or-false}
 use Rattle.lists.proofs.Laws.Tests.{and-comm}
-use Rattle.rules.specs.Limits.{partitionsMax, rowsMax, entriesMax, areasMax}
+use Rattle.rules.specs.Limits.{partitionsMax, rowsMax, entriesMax}
 use Rattle.rules.specs.Span.{Span, isDelete, spans, wordsOf}
 use Rattle.rules.specs.Sees.{upTo}
 use Rattle.rules.specs.Rewrite.{rolledBack}
 use Rattle.rules.specs.Weight.{weight, weightBy, total}
 use Rattle.rules.specs.Store.{Store, managerOf, partitionAt, spansAt, totalAt, partitionNumbers}
-use Rattle.rules.specs.Ledger.{Line, shows}
+use Rattle.rules.specs.Ledger.{Line}
 use Rattle.rules.specs.WellFormed.{epochOk}
 use Rattle.rules.specs.declared.Entry.{Entry}
 use Rattle.rules.specs.declared.Partition.{Partition}
 use Rattle.laws.proofs.Laws.Lines.{markOf, AllLines, shows-agree}
 use Rattle.laws.proofs.Laws.LinesOf.{linesOf, All-lines}
 use Rattle.laws.proofs.Laws.Epochs.{epoch-facts}
-use Rattle.laws.proofs.Laws.WellFormed.{StoreOk, partition-entries}
+use Rattle.laws.proofs.Laws.WellFormed.{partition-entries}
 use Rattle.laws.proofs.Laws.Totals.{SoundOk, total-kept, numbered}
-use Rattle.laws.proofs.Laws.Weight.{weight-lines, total-lines, weightBy-most, total-rolledBack, total-lands}
+use Rattle.laws.proofs.Laws.Weight.{weight-lines, weightBy-most, total-rolledBack, total-lands}
 use Rattle.lent.specs.Shapes.{turned}
-use Rattle.totals.specs.Places.{fromOf, toOf}
+use Rattle.totals.specs.Places.{fromOf}
 use Rattle.totals.specs.Reach.{inReach, noTop, topTurn}
 use Rattle.totals.specs.Weighed.{room, plus, noTally, closedOf, tallyTurn}
 use Rattle.totals.specs.Landing.{landTo, landCut, topIn, tallyIn, landed, landedAt, landedBelow, landedAll}
@@ -77,7 +79,8 @@ module _ (es : List Entry) (rows : List ℕ) (q : Partition) (L : Lies es rows q
     still e = let m = weightBy-most (upTo (r .over)) ss in let z : fromOf q - fromOf q ≡ 0 = omega arith in
         rw (eq-eqb (r .high) (r .over) e, z) (plus-small (total (r .over) ss) 0 (omega arith) (omega arith)
           ∙ (same (total (r .over) ss) ∙ (weight-lines (upTo (r .over)) ss ∙ (ap weight (sym (shows-agree s s (upTo
-          (r .over)) (upTo (r .over)) (linesOf ss) (All-imp _ _ (λ x h. (none x h, none x h)) (linesOf ss) a))) ∙ sym (weight-lines s ss)))))
+          (r .over)) (upTo (r .over)) (linesOf ss) (All-imp _ _ (λ x h. (none x h, none x h)) (linesOf ss) a))) ∙ sym
+              (weight-lines s ss)))))
       where
         same : (n : ℕ) → n + 0 ≡ n
         same n = omega arith
@@ -94,7 +97,8 @@ module _ (es : List Entry) (rows : List ℕ) (q : Partition) (L : Lies es rows q
     moved f = let m = weightBy-most (upTo (r .over)) ss in let n = weightBy-most (inReach r) ss in
         rw (f, lot-turned es q (L .placed) (topTurn r) noTop,
           lot-turned es q (L .placed) (tallyTurn rows (landCut r q (foldl (topTurn r) noTop own))) noTally,
-          lot-weighs es rows q L r, top-none r own (part (rowsMax * q .area) (q .rows) rows), swap taken (total (r .over) ss))
+          lot-weighs es rows q L r, top-none r own (part (rowsMax * q .area) (q .rows) rows), swap taken (total (r
+              .over) ss))
         (plus-small (cond taken 0 (total (r .over) ss)) (weightBy (inReach r) ss) (at-most taken (total (r .over) ss)
             (omega arith)) (omega arith)
           ∙ sym (total-lands (r .over) s (inReach r) (reach-above r) ss a))
@@ -160,7 +164,8 @@ module _ (st : Store) (ok : SoundOk st) (eight : length (st .state .totals) ≡ 
     lands-to : (p : ℕ) → p < partitionsMax → landsTo p (getD (st .state .totals) p 0) ≡ next p
     unfolding totalAt spansAt
     lands-to p k = let c = ok .shape .partition p k .spans-ok .rows-fit in
-        rw (total-kept st ok p k) (lot-lands (st .entries) (st .rows) (partitionAt p st) (lies p k) reach s c (each p k))
+        rw (total-kept st ok p k) (lot-lands (st .entries) (st .rows) (partitionAt p st) (lies p k) reach s c (each p
+            k))
 
     below-length : (k : ℕ) → length (landedBelow (st .entries) (st .rows) l k) ≡ partitionsMax
     unfolding landedBelow landedAt landed
@@ -219,5 +224,6 @@ module _ (st : Store) (ok : SoundOk st) (eight : length (st .state .totals) ≡ 
         totals = st .state .totals; reach = record { over = managerOf st .clock .lce; high = h; gone = i } })
         ≡ map (λ p. total h (rolledBack i (spansAt p st))) partitionNumbers
   lands-rollback i above = lands-all st ok eight h i (λ j. not (eqb j i) && leb j h)
-      (λ p k. All-every _ (λ x. rollback-sees (managerOf st .clock .lce) h i (markOf x) up above) (linesOf (spansAt p st)))
+      (λ p k. All-every _ (λ x. rollback-sees (managerOf st .clock .lce) h i (markOf x) up above) (linesOf (spansAt p
+          st)))
       ∙ sym (ap (λ (f : ℕ → ℕ). map f partitionNumbers) (λ k p. total-rolledBack h i (spansAt p st) k))

@@ -2,19 +2,17 @@
 -- shown of it. Definitions: specs/Places.antt, specs/Landing.antt.
 -- In order: where it lies, a pass over its entries, what it weighs.
 -- Assumes nothing.
-use mathlib.Core.Path.{_≡_, refl, sym, ap, _∙_}
-use mathlib.Core.Bool.{Bool, true, false, not, _&&_, cond}
-use mathlib.Core.List.{List, [], _∷_, foldl}
+use mathlib.Core.Path.{_≡_, ap, _∙_}
+use mathlib.Core.Bool.{true}
+use mathlib.Core.List.{List, foldl}
 use Prim.Native.Nat.{ℕ, _+_, _-_, _*_, _≤_, _<_}
 use native.Mathlib.Omega.{arith}
 use lib.ListN.{length}
-use lib.Dec.{eqb, leb}
-use borrow.Author.Tests.{lt-ltb, le-leb, eqb-true}
-use Rattle.lists.specs.Lists.{anyOf, part}
-use Rattle.lists.proofs.Laws.Bools.{split}
+use borrow.Author.Tests.{lt-ltb, le-leb}
+use Rattle.lists.specs.Lists.{part}
 use Rattle.rules.specs.Limits.{rowsMax, entriesMax, areasMax}
-use Rattle.rules.specs.Span.{Span, isDelete, spans, wordsOf}
-use Rattle.rules.specs.Weight.{weightBy, total}
+use Rattle.rules.specs.Span.{Span, spans}
+use Rattle.rules.specs.Weight.{weightBy}
 use Rattle.rules.specs.WellFormed.{endsOk}
 use Rattle.rules.specs.declared.Entry.{Entry}
 use Rattle.rules.specs.declared.Partition.{Partition}
@@ -25,7 +23,6 @@ use Rattle.totals.specs.Reach.{inReach, noTop, topTurn}
 use Rattle.totals.specs.Weighed.{noTally, closedOf, tallyTurn}
 use Rattle.totals.specs.Landing.{landCut}
 use Rattle.totals.specs.declared.Reach.{Reach}
-use Rattle.totals.specs.declared.Top.{Top}
 use Rattle.totals.proofs.Laws.Weighs.{weighs}
 
 -- a partition whose entries lie among those lent

@@ -23,6 +23,7 @@ use Rattle.rules.specs.Weight.{weight, weightBy}
 use Rattle.rules.specs.WellFormed.{endsOk}
 use Rattle.rules.specs.declared.Entry.{Entry}
 use Rattle.laws.proofs.Laws.Span.{end-ok, endsOk-le}
+use Rattle.laws.proofs.Laws.TopDelete.{order}
 use Rattle.totals.specs.Reach.{inReach, noTop, topTurn, farthest, cutOf, shows}
 use Rattle.totals.specs.Weighed.{noTally, closedOf, tallyTurn}
 use Rattle.totals.specs.declared.Reach.{Reach}
@@ -32,11 +33,6 @@ use Rattle.totals.proofs.Laws.Clearing.{top-greatest, top-reached, stan
 use Rattle.totals.proofs.Laws.Tallied.{weight-append, rowsFrom, rows-take, rows-drop, shownSum, tally-sum}
 
 -- ---- the rows that the greatest clearing leaves
-
--- by order of two numbers
-order : {P : Type 0} (j e : ℕ) → (j < e → P) → (j ≡ e → P) → (e < j → P) → P
-order j e lt eq gt = split (ltb j e) (λ t. lt (ltb-true j e t)) (λ f. let g = ltb-false j e f in
-    split (eqb j e) (λ t. eq (eqb-true j e t)) (λ n. gt (let h = eqb-false j e n in omega arith)))
 
 module _ (r : Reach) (base : ℕ) (t : Top) (reached : Reached r t) (all : List Span)
     (greatest : (j : ℕ) → anyOf (hides r (ltb j)) all ≡ ltb j (t .epoch)) where

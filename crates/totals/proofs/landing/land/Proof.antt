@@ -1,5 +1,5 @@
--- `land` meets its contract: a walk of its MIR, by hand, with a loop. A turn finds where a partition lies, goes over its
--- entries twice, and brings its total up to date.
+-- `land` meets its contract: a walk of its MIR, by hand, with a loop. A turn finds where a partition lies, goes over
+-- its entries twice, and brings its total up to date.
 -- Assumes nothing.
 use mathlib.Core.Path.{_≡_, refl, ap, subst}
 use Prim.Native.Nat.{ℕ, zero, suc, _<_, _+_, _-_, _^_}
@@ -57,6 +57,7 @@ use Rattle.shapes.proofs.Two.{Finds2, find2-call, lfts}
 use Rattle.lent.specs.Shapes.{turned}
 use Rattle.area.specs.Load.{partitionIn}
 use Rattle.area.proofs.Types.{place}
+use Rattle.shapes.proofs.Core.{totals}
 use Rattle.totals.specs.Places.{fromOf}
 use Rattle.totals.specs.Reach.{noTop, topTurn}
 use Rattle.totals.specs.Weighed.{noTally, tallyTurn}
@@ -66,7 +67,7 @@ use Rattle.totals.specs.declared.Top.{Top}
 use Rattle.totals.specs.declared.Cut.{Cut}
 use Rattle.totals.specs.declared.Tally.{Tally}
 use Rattle.totals.specs.declared.landing.Landing.{Landing}
-use Rattle.totals.proofs.Types.{reach, top, cut, tally, totals, landing}
+use Rattle.totals.proofs.Types.{reach, top, cut, tally, landing}
 use Rattle.totals.proofs.clearing.no_top.Symbol as no-top-def
 use Rattle.totals.proofs.clearing.no_top.Met as no-top-thm
 use Rattle.totals.proofs.clearing.find.Symbol as find-def
