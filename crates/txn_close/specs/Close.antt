@@ -1,14 +1,14 @@
 -- Closing and settling as one pass over rising records sees them. 01 "The books", Commit, roll back.
 -- The rules' own wording is settledLce and oldestOpen (rules/specs/Close.antt); proofs/Laws/Settle.antt shows that the
 -- two agree.
--- In order: lead, runLce, firstOpen, the books, the transaction closed, the search for it.
+-- In order: lead, runLce, firstOpen, the books, the transaction closed, LCE then, the search for it.
 -- Assumes nothing.
 use mathlib.Core.Bool.{Bool, cond}
 use mathlib.Core.List.{List, [], _∷_}
 use Prim.Native.Nat.{ℕ, suc}
 use lib.ListN.{drop, set}
 use Rattle.rules.specs.Manager.{Writer, isOpen, withLce}
-use Rattle.rules.specs.Close.{waitingTxn, committedManager, rolledBackManager}
+use Rattle.rules.specs.Close.{waitingTxn, committedTxns, droppedTxns, committedManager, rolledBackManager}
 use Rattle.rules.specs.declared.Answer.the-variants.{Closed, Refused}
 use Rattle.rules.specs.declared.Refusal.the-variants.{NotOpen}
 use Rattle.rules.specs.declared.Clock.{Clock}
@@ -48,6 +48,10 @@ booksWith c ws = record { clock = c; writers = writersWith ws }
 
 abbrev pub closedTxns : Bool → ℕ → ℕ → List Writer → List Writer
 closedTxns waits j i ws = cond waits (set ws j (waitingTxn i)) (cut j (suc j) ws)
+
+-- LCE once the transaction of epoch i is closed: settled over the records as they are then
+unfoldable pub lceAfter : Bool → ℕ → ℕ → List Writer → ℕ
+lceAfter waits i lce ws = runLce lce (cond waits (committedTxns i ws) (droppedTxns i ws))
 
 -- ---- the search for it, then closed and settled
 

@@ -1,7 +1,9 @@
-// Commit and roll back, on the books by value. 01 "The books", Commit, roll back; 02 (i); 004 III-B "LCE".
+// Commit and roll back, on the books by value, and where LCE then lies. 01 "The books", Commit, roll back; 02 (i);
+// 004 III-B "LCE".
 mod close;
 
 use close::Books;
+use places::in_use;
 use rules::Answer;
 use rules::Clock;
 use rules::Kept;
@@ -9,19 +11,23 @@ use rules::Refusal;
 use rules::RwTxns;
 use rules::State;
 use rules::limits::DEPS_ALL;
+use rules::limits::WRITERS_MAX;
 use txn::parts_sound;
 use txn_find::Found;
 use txn_find::find_writer;
-ghost use mathlib.Core.Bool.{_&&_};
+ghost use mathlib.Core.Bool.{_&&_, not, cond};
 ghost use mathlib.Core.Path.{_≡_};
+ghost use mathlib.Core.List.{[], map};
+ghost use lib.Dec.{eqb};
+ghost use lib.ListN.{take};
 ghost use Rattle.rules.specs.Close.{committedManager, rolledBackManager};
 ghost use Rattle.rules.specs.WellFormed.{managerOk};
 ghost use Rattle.rules.specs.Calls.{closeAnswer};
 ghost use Rattle.txn.specs.Kept.{keptOf};
-ghost use Rattle.rules.specs.Manager.{managerIn};
+ghost use Rattle.rules.specs.Manager.{managerIn, view};
 ghost use Rattle.txn.specs.Records.{viewed, Tidy};
 ghost use Rattle.txn_find.specs.Find.{writerAt};
-ghost use Rattle.txn_close.specs.Close.{endedBy, tableBy};
+ghost use Rattle.txn_close.specs.Close.{endedBy, tableBy, lceAfter};
 
 // What closing a transaction answers, and what it changes beside the table of deps, which is lent.
 struct Ended {
@@ -101,4 +107,42 @@ pub fn roll_back(state: State, rest: bool, i: u64) -> Kept
         state: s,
         answer: answer,
     }
+}
+
+// A record with these words is open, and is not the transaction of epoch i.
+fn is_other(waiting: u64, epoch: u64, i: u64) -> bool
+    ensures { λ r. ⌜ r ≡ eqb waiting 0 && not (eqb epoch i) ⌝ }
+{
+    if waiting == 0 { epoch != i } else { false }
+}
+
+// LCE past a record with these words: one that waits moves it, and the one closed does where it comes to wait.
+fn lce_past(waiting: u64, epoch: u64, waits: bool, last: u64) -> u64
+    ensures { λ r. ⌜ r ≡ cond (eqb waiting 0 && not waits) last epoch ⌝ }
+{
+    if waiting == 0 {
+        if waits {
+            return epoch;
+        }
+        return last;
+    }
+    epoch
+}
+
+// LCE once the transaction (01: load) of epoch i is closed, whatever the books are: committed it waits, rolled back it
+// leaves no record.
+pub fn lce_after(lce: u64, ts: RwTxns, i: u64, waits: bool) -> u64
+    ensures { λ r. ⌜ r ≡ lceAfter waits i lce (map (view []) (take (ts .count) (ts .at))) ⌝ }
+{
+    let n = in_use(ts.count, WRITERS_MAX);
+    let mut last = lce;
+    let mut k: usize = 0;
+    while k < n {
+        if is_other(ts.at[k].waiting, ts.at[k].epoch, i) {
+            return last;
+        }
+        last = lce_past(ts.at[k].waiting, ts.at[k].epoch, waits, last);
+        k += 1;
+    }
+    last
 }

@@ -1,17 +1,17 @@
 -- Closing at the place that was found, then settling, is what the rules say of the epoch.
 -- Definitions: specs/Close.antt; rules/specs/Close.antt.
--- In order: one transaction closed, settled, the transactions of a manager, the books.
+-- In order: one transaction closed, settled, the transactions of a manager, the books, LCE by itself.
 -- Assumes nothing.
-use mathlib.Core.Path.{_≡_, refl, sym, _∙_}
+use mathlib.Core.Path.{_≡_, refl, sym, ap, _∙_}
 use mathlib.Core.Bool.{Bool, true, false, _&&_, cond}
-use mathlib.Core.List.{List}
+use mathlib.Core.List.{List, [], map}
 use Prim.Native.Nat.{ℕ, suc, _≤_}
 use native.Mathlib.Omega.{arith}
 use lib.ListN.{length, take, drop, length-set, length-append, length-take, length-drop}
 use Rattle.lists.proofs.Laws.All.{All, All-append, All-take, All-drop, All-set}
 use Rattle.lists.proofs.Laws.Bools.{and-right}
 use Rattle.lists.proofs.Laws.Branches.{said}
-use Rattle.rules.specs.Manager.{Manager, Writer, noWriter, managerWith, managerIn, writersOf, opens}
+use Rattle.rules.specs.Manager.{Manager, Writer, noWriter, managerWith, managerIn, writersOf, opens, view}
 use Rattle.rules.specs.Close.{waitingTxn, committedTxns, droppedTxns, oldestOpen, settled, committedManager}
 use Rattle.rules.specs.Close.{rolledBackManager}
 use Rattle.rules.specs.Calls.{closeAnswer}
@@ -35,12 +35,12 @@ use Rattle.txn_find.specs.declared.Found.{Found}
 use Rattle.txn_find.specs.declared.Found.the-variants.{At, Nothing}
 use Rattle.txn_find.proofs.Laws.Find.{writer-found, writer-stands, writer-none}
 use Rattle.txn_find.proofs.Laws.Places.{Sized}
-use Rattle.txn_close.specs.Close.{lead, firstOpen, booksWith, closedTxns, settledBy, endedBy, tableBy}
-use Rattle.txn_close.specs.Close.{closedManager}
+use Rattle.txn_close.specs.Close.{lead, runLce, firstOpen, booksWith, closedTxns, settledBy, endedBy, tableBy}
+use Rattle.txn_close.specs.Close.{lceAfter, closedManager}
 use Rattle.txn_close.specs.declared.Ended.{Ended}
 use Rattle.txn_close.specs.declared.close.Books.{Books}
 use Rattle.txn_close.specs.declared.close.Settled.{Settled}
-use Rattle.txn_close.proofs.Laws.Settle.{first-oldest, settled-runs}
+use Rattle.txn_close.proofs.Laws.Settle.{first-oldest, settled-runs, lce-after-bare}
 
 -- ---- one transaction closed: the others keep their rows
 
@@ -133,3 +133,24 @@ module _ (s : State) (z : Sized (managerIn s)) (rest : Bool) (yes : rest && mana
     endedIn s (endedBy waits i (s .clock) (s .writers) (writersOf m) r) (tableBy waits i (writersOf m) (s .deps) r)
       ≡ keptOf (closeAnswer i (rest && managerOk m) m next) next s
   ended-is = by-found (writerAt i (s .writers)) refl
+
+-- ---- LCE by itself: over the records alone, it is that of the manager once closed and settled
+
+module _ (i : ℕ) (m : Manager) (f : WriterFacts (m .clock) (writersOf m)) where
+  settled-lce : (ts : List Writer) → Unsettled (m .clock) ts → runLce (m .clock .lce) ts ≡ settled ts m .clock .lce
+  settled-lce ts u = sym (ap (λ (n : Manager). n .clock .lce) (settled-runs m ts (u .rising)))
+
+  lce-closed : (waits : Bool)
+    → lceAfter waits i (m .clock .lce) (writersOf m) ≡ closedManager waits i m .clock .lce
+  unfolding lceAfter committedManager rolledBackManager
+  lce-closed true = let ws = writersOf m in
+    settled-lce (committedTxns i ws) (committed-unsettled (m .clock) ws f i)
+  lce-closed false = let ws = writersOf m in
+    settled-lce (droppedTxns i ws) (dropped-unsettled (m .clock) ws f i)
+
+pub lce-after : (waits : Bool) (i : ℕ) (s : State) → managerOk (managerIn s) ≡ true
+    → lceAfter waits i (s .clock .lce) (map (view []) (take (s .writers .count) (s .writers .at)))
+      ≡ closedManager waits i (managerIn s) .clock .lce
+lce-after waits i s ok = let m = managerIn s in
+    lce-after-bare waits i (s .clock .lce) (s .deps) (take (s .writers .count) (s .writers .at))
+      ∙ lce-closed i m (manager-facts m ok .writers) waits

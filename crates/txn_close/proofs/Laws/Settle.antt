@@ -1,29 +1,30 @@
 -- Where the epochs rise, settling drops the records that wait before the first open one, LCE is the last of their
 -- epochs, and the first open one is the oldest.
 -- Definitions: specs/Close.antt; rules/specs/Close.antt.
--- In order: LCE, the records kept, the oldest open one, the manager settled, records without their rows.
+-- In order: LCE, the records kept, the oldest open one, the manager settled, records without their rows, LCE once one
+-- of them is closed.
 -- Assumes nothing.
 use mathlib.Core.Path.{_≡_, refl, sym, ap, _∙_}
-use mathlib.Core.Bool.{true, false, not, cond}
+use mathlib.Core.Bool.{Bool, true, false, not, _&&_, cond}
 use mathlib.Core.List.{List, [], _∷_, map, foldr}
 use Prim.Native.Nat.{ℕ, suc, _≤_, _<_, max}
 use native.Mathlib.Omega.{arith}
 use lib.Dec.{eqb}
 use lib.ListN.{length, take, drop, getD}
-use borrow.Author.Tests.{lt-ltb, le-ltb, le-leb, lt-leb}
+use borrow.Author.Tests.{lt-ltb, le-ltb, le-leb, lt-leb, eqb-true}
 use Rattle.lists.specs.Lists.{keepIf, rises}
 use Rattle.lists.proofs.Laws.Bools.{split, and-false}
 use Rattle.lists.proofs.Laws.Order.{rises-split, rises-keepIf, leastOf-rises}
 use Rattle.rules.specs.Limits.{depsMax}
 use Rattle.rules.specs.Manager.{Writer, view, views, isOpen, openEpochs, withClock, withWriters, withLce}
-use Rattle.rules.specs.Close.{unblocked, settledLce, oldestOpen, settled}
+use Rattle.rules.specs.Close.{committedTxns, droppedTxns, unblocked, settledLce, oldestOpen, settled}
 use Rattle.rules.specs.declared.RwTxn.{RwTxn}
 use Rattle.rules.specs.declared.RwTxns.{RwTxns}
 use Rattle.rules.specs.Manager.{Manager}
 use Rattle.laws.proofs.Laws.Manager.{epochs}
 use Rattle.laws.proofs.Laws.Close.{reached, kept}
 use Rattle.txn.specs.Records.{viewed}
-use Rattle.txn_close.specs.Close.{lead, runLce, firstOpen, reachOf}
+use Rattle.txn_close.specs.Close.{lead, runLce, firstOpen, reachOf, lceAfter}
 use Rattle.txn_close.specs.declared.close.Reached.{Reached}
 
 -- ---- LCE
@@ -142,3 +143,30 @@ pub reached-is : (lce : ℕ) (ts : RwTxns) (ds : List ℕ) {r : Reached}
     → r ≡ reachOf lce (map (view []) (take (ts .count) (ts .at))) → r ≡ reachOf lce (viewed ts ds)
 reached-is lce ts ds e = let us = take (ts .count) (ts .at) in
     e ∙ (λ i. record { lce = run-bare lce ds us i; count = lead-bare ds us i; oldest = first-bare ds us i })
+
+-- ---- LCE once the transaction of epoch i is closed, one record further
+
+module _ (waits : Bool) (i : ℕ) where
+  pub lce-after-nil : (lce : ℕ) → lceAfter waits i lce [] ≡ lce
+  unfolding lceAfter committedTxns droppedTxns
+  lce-after-nil lce = split waits (λ w. rw w) (λ w. rw w)
+
+  pub lce-after-cons : (lce : ℕ) (t : Writer) (ts : List Writer) → lceAfter waits i lce (t ∷ ts)
+    ≡ cond (isOpen t && not (eqb (t .epoch) i)) lce
+      (lceAfter waits i (cond (isOpen t && not waits) lce (t .epoch)) ts)
+  unfolding lceAfter committedTxns droppedTxns
+  lce-after-cons lce t ts = split waits
+    (λ w. split (isOpen t)
+      (λ o. split (eqb (t .epoch) i) (λ e. rw (w, o, e, eqb-true (t .epoch) i e)) (λ n. rw (w, o, n, o)))
+      (λ o. rw (w, o, o)))
+    (λ w. split (isOpen t) (λ o. split (eqb (t .epoch) i) (λ e. rw (w, o, e)) (λ n. rw (w, o, n, o)))
+      (λ o. rw (w, o, o)))
+
+  -- records without their rows do alike
+  pub lce-after-bare : (lce : ℕ) (ds : List ℕ) (ts : List RwTxn)
+    → lceAfter waits i lce (map (view []) ts) ≡ lceAfter waits i lce (views ds ts)
+  lce-after-bare lce ds [] = refl
+  lce-after-bare lce ds (t ∷ ts) =
+    let past = cond (eqb (t .waiting) 0 && not waits) lce (t .epoch) in
+    rw (lce-after-cons lce (view [] t) (map (view []) ts), lce-after-bare past (drop depsMax ds) ts)
+      (sym (lce-after-cons lce (view (take depsMax ds) t) (views (drop depsMax ds) ts)))
