@@ -1,6 +1,7 @@
 -- What the test of the lots asks of the books, and that test over the lent entries. 01 "Refusals that come from the
 -- state", *sound*.
--- In order: numbers between two others, LCE raised, what is asked, the lengths, the totals, the test.
+-- In order: numbers between two others, LCE raised, what is asked, with what lands and without, the lengths, the
+-- totals, the test.
 -- Laws: proofs/Laws/Asked.antt (of what is asked of a manager it is restOk, and that is rules').
 -- Assumes nothing.
 use mathlib.Core.Bool.{Bool, _&&_, cond}
@@ -34,10 +35,16 @@ fills lo hi (x ∷ xs) = eqb (suc lo) x && fills x hi xs
 unfoldable pub raised : Clock → List ℕ → Clock
 raised c js = cond (fills (c .lce) (c .ec) js) (record { ec = c .ec; lce = c .ec; lse = c .lse }) c
 
-abbrev pub askedOf : Clock → RwTxns → Partitions → List ℕ → Asked
-askedOf c ts ps totals = record {
+-- where the epochs above LCE up to high land, but for one that is gone
+abbrev pub askedFor : Clock → RwTxns → Partitions → List ℕ → ℕ → ℕ → Asked
+askedFor c ts ps totals high gone = record {
   clock = raised c (epochsOf ts); lce = c .lce; epochs = pad writersMax 0 (epochsOf ts);
-  count = length (epochsOf ts); partitions = ps; totals = totals }
+  count = length (epochsOf ts); partitions = ps; totals = totals;
+  lands = record { over = c .lce; high = high; gone = gone } }
+
+-- where nothing lands
+abbrev pub askedOf : Clock → RwTxns → Partitions → List ℕ → Asked
+askedOf c ts ps totals = askedFor c ts ps totals (c .lce) 0
 
 -- m rows and n entries are lent
 unfoldable pub lengthsAre : ℕ → ℕ → Bool

@@ -1,25 +1,34 @@
 -- The parts of the pass over all partitions, as the code makes them: what is asked first, how far a partition is
--- weighed, and what the pass over its entries tells.
--- Laws: proofs/Laws/Rest.antt (they find restAsked).
+-- weighed, and what the passes over its entries tell; then all that is found.
+-- Laws: proofs/Laws/Rest.antt (they find restAsked), proofs/Laws/Lands.antt (of a sound store the totals are those
+-- worked out afresh).
 -- Assumes nothing.
 use mathlib.Core.Bool.{Bool, true, false, _&&_, cond}
 use mathlib.Core.List.{List}
-use Prim.Native.Nat.{ℕ}
-use lib.ListN.{getD}
+use Prim.Native.Nat.{ℕ, zero, suc, _-_}
+use lib.ListN.{getD, set}
 use lib.Dec.{ltb, leb, eqb}
 use Rattle.rules.specs.Limits.{partitionsMax, rowsMax, entriesMax}
 use Rattle.rules.specs.WellFormed.{areasOk}
-use Rattle.totals.specs.Weighed.{closedOf}
+use Rattle.lent.specs.Shapes.{turned}
+use Rattle.area.specs.Load.{partitionIn}
+use Rattle.totals.specs.Places.{fromOf, toOf}
+use Rattle.totals.specs.Reach.{noTop, topTurn, cutsOf}
+use Rattle.totals.specs.Weighed.{plus, noTally, closedOf, tallyTurn}
 use Rattle.totals.specs.declared.Reach.{Reach}
-use Rattle.totals.specs.declared.Cut.{Cut}
+use Rattle.totals.specs.declared.Top.{Top}
+use Rattle.totals.specs.declared.Cuts.{Cuts}
 use Rattle.totals.specs.declared.Tally.{Tally}
+use Rattle.rules.specs.declared.Entry.{Entry}
 use Rattle.rules.specs.declared.Partition.{Partition}
 use Rattle.rules.specs.declared.Partitions.{Partitions}
 use Rattle.partition_sound.specs.Sound.{beforeFirst}
-use Rattle.partition_sound.specs.Asked.{lengthsAre}
+use Rattle.partition_sound.specs.Asked.{lengthsAre, restAsked}
+use Rattle.partition_sound.specs.Pass.{stepOf}
 use Rattle.partition_sound.specs.declared.Asked.{Asked}
 use Rattle.partition_sound.specs.declared.Held.{Held}
 use Rattle.partition_sound.specs.declared.Last.{Last}
+use Rattle.partition_sound.specs.declared.Verdict.{Verdict}
 
 abbrev pub heldOf : Asked → Held
 heldOf a = record { ec = a .clock .ec; lce = a .clock .lce; count = a .count }
@@ -46,7 +55,55 @@ weighedTo q s from to = cond (wellBy q s) to from
 unfoldable pub clearedTo : Last → ℕ → ℕ → ℕ
 clearedTo s from end = cond (s .cleared) end from
 
+-- the newest clearing is sought nowhere where nothing lands
+unfoldable pub landingTo : Reach → ℕ → ℕ → ℕ
+landingTo r from stop = cond (eqb (r .high) (r .over)) from stop
+
 -- it is well after those before it, and weighs its total
-unfoldable pub judgedOf : List ℕ → Bool → List ℕ → ℕ → Partition → Last → Cut → Tally → Bool
+unfoldable pub judgedOf : List ℕ → Bool → List ℕ → ℕ → Partition → Last → Cuts → Tally → Bool
 judgedOf rows ok totals p q s c t =
-    ok && wellBy q s && ltb p partitionsMax && eqb (getD totals p 0) (closedOf rows c t)
+    ok && wellBy q s && ltb p partitionsMax && eqb (getD totals p 0) (closedOf rows (c .shown .base) t)
+
+-- a clearing that lands takes out what was there, and what lands comes on top
+unfoldable pub landedAt : List ℕ → ℕ → Top → Tally → List ℕ
+landedAt totals p newest t = set totals p (plus (cond (eqb (newest .epoch) 0) (getD totals p 0) 0) (t .more))
+
+abbrev pub foundOf : Bool → List ℕ → Verdict
+foundOf ok totals = record { totals = totals; ok = ok }
+
+-- ---- the passes over the lent entries, of what is asked
+
+module _ (es : List Entry) (rows : List ℕ) (a : Asked) where
+  -- what the pass over partition q tells
+  abbrev pub lastAt : Partition → Last
+  lastAt q = turned (stepOf (a .epochs) (heldOf a)) startOf es (fromOf q) (toOf q - fromOf q)
+
+  -- up to where it is weighed, and its greatest clearing sought
+  abbrev pub endAt : Partition → ℕ
+  endAt q = weighedTo q (lastAt q) (fromOf q) (toOf q)
+
+  abbrev pub stopAt : Partition → ℕ
+  stopAt q = clearedTo (lastAt q) (fromOf q) (endAt q)
+
+  -- its greatest clearing up to LCE, and the newest that lands
+  abbrev pub topAt : Partition → Top
+  topAt q = turned (topTurn (reachOf a)) noTop es (fromOf q) (stopAt q - fromOf q)
+
+  abbrev pub newestAt : Partition → Top
+  newestAt q = turned (topTurn (a .lands)) noTop es (fromOf q) (landingTo (a .lands) (fromOf q) (stopAt q) - fromOf q)
+
+  -- what these leave, and where its weighing stands
+  abbrev pub cutsAt : Partition → Cuts
+  cutsAt q = cutsOf q (reachOf a) (topAt q) (a .lands) (newestAt q)
+
+  abbrev pub tallyAt : Partition → Tally
+  tallyAt q = turned (tallyTurn rows (cutsAt q)) noTally es (fromOf q) (endAt q - fromOf q)
+
+  -- the totals once k partitions have landed
+  unfoldable pub landedBelow : ℕ → List ℕ
+  landedBelow zero = a .totals
+  landedBelow (suc k) = let q = partitionIn (a .partitions) k in landedAt (landedBelow k) k (newestAt q) (tallyAt q)
+
+  -- all that is found
+  abbrev pub restFound : Verdict
+  restFound = foundOf (restAsked es rows a) (landedBelow partitionsMax)

@@ -11,15 +11,16 @@ use rules::limits::ENTRIES_MAX;
 use rules::limits::PARTITIONS_MAX;
 use rules::limits::ROWS_MAX;
 use rules::limits::WRITERS_MAX;
+use totals::Reach;
 use totals::clearing;
-use totals::landing;
 use totals::shown;
 ghost use mathlib.Core.Path.{_≡_};
 ghost use mathlib.Core.Bool.{_&&_};
 ghost use lib.Dec.{leb};
 ghost use Rattle.rules.specs.Limits.{rowsMax, entriesMax};
 ghost use Rattle.partition_sound.specs.Sound.{epochsOf, epochsWith, beforeFirst};
-ghost use Rattle.partition_sound.specs.Asked.{raised, askedOf, restAsked};
+ghost use Rattle.partition_sound.specs.Asked.{raised, askedOf, askedFor, restAsked};
+ghost use Rattle.partition_sound.specs.Rest.{restFound};
 
 mod areas;
 mod numbers;
@@ -43,7 +44,8 @@ pub struct Held {
 }
 
 // What the test of the lots asks of the books: the clock, with LCE raised to EC where each epoch between has a record;
-// LCE; the epochs of the records; the partitions and their totals.
+// LCE; the epochs of the records; the partitions and their totals; and the epochs above LCE that land by the call, of
+// which there are none but at a commit or a roll back.
 pub struct Asked {
     pub clock: Clock,
     pub lce: u64,
@@ -51,6 +53,13 @@ pub struct Asked {
     pub count: usize,
     pub partitions: Partitions,
     pub totals: [u64; PARTITIONS_MAX],
+    pub lands: Reach,
+}
+
+// What the test finds: the totals once these epochs have landed, and whether all is well.
+pub struct Verdict {
+    pub totals: [u64; PARTITIONS_MAX],
+    pub ok: bool,
 }
 
 // The epochs of the read-write transactions (01: loads) that have a record.
@@ -109,9 +118,23 @@ fn before_first() -> Entry
     }
 }
 
-// What is asked of books with this clock, these records, these partitions and totals.
+// What is asked of books with this clock, these records, these partitions and totals, where nothing lands.
 pub fn ask(clock: Clock, ts: RwTxns, ps: Partitions, totals: [u64; PARTITIONS_MAX]) -> Asked
     ensures { λ r. ⌜ r ≡ askedOf clock ts ps totals ⌝ }
+{
+    ask_landing(clock, ts, ps, totals, clock.lce, 0)
+}
+
+// The same where the epochs above LCE up to `high` land, but for `gone`.
+pub fn ask_landing(
+    clock: Clock,
+    ts: RwTxns,
+    ps: Partitions,
+    totals: [u64; PARTITIONS_MAX],
+    high: u64,
+    gone: u64,
+) -> Asked
+    ensures { λ r. ⌜ r ≡ askedFor clock ts ps totals high gone ⌝ }
 {
     let es = epochs_of(ts);
     let at = es.at;
@@ -124,13 +147,27 @@ pub fn ask(clock: Clock, ts: RwTxns, ps: Partitions, totals: [u64; PARTITIONS_MA
         count: n,
         partitions: ps,
         totals: totals,
+        lands: Reach {
+            over: clock.lce,
+            high: high,
+            gone: gone,
+        },
     }
 }
 
-// *sound* but for the manager. One pass over the entries in use of each partition, to which the records' epochs are
-// lent; then, where the partition is well, one over its entries and rows, which weighs it (02 (iii)).
+// *sound* but for the manager.
 pub fn rest_ok(entries: &[Entry], rows: &[u64], a: Asked) -> bool
     ensures { λ r. ⌜ r ≡ restAsked (now (entries .entry)) (now (rows .entry)) a ⌝ }
+{
+    let r = rest_of(entries, rows, a);
+    rest::ok_of(r)
+}
+
+// *sound* but for the manager, and the totals once what is asked for has landed. One pass over the entries in use of
+// each partition, to which the records' epochs are lent; then, where the partition is well, one over its entries and
+// rows, which weighs it, and what lands (02 (iii)).
+pub fn rest_of(entries: &[Entry], rows: &[u64], a: Asked) -> Verdict
+    ensures { λ r. ⌜ r ≡ restFound (now (entries .entry)) (now (rows .entry)) a ⌝ }
 {
     let n = entries.len();
     let m = rows.len();
@@ -138,10 +175,12 @@ pub fn rest_ok(entries: &[Entry], rows: &[u64], a: Asked) -> bool
     let places = rest::places_of(a);
     let kept = rest::totals_of(a);
     let reach = rest::reach_of(a);
+    let lands = rest::lands_of(a);
     let start = rest::start();
     let none = clearing::no_top();
     let empty = shown::no_tally();
     let mut ok = rest::begin(n, m, places);
+    let mut after = rest::totals_of(a);
     let mut p: usize = 0;
     let epochs = rest::epochs_in(a);
     while p < PARTITIONS_MAX {
@@ -152,10 +191,13 @@ pub fn rest_ok(entries: &[Entry], rows: &[u64], a: Asked) -> bool
         let end = rest::weighed_to(q, last, from, to);
         let stop = rest::cleared_to(last, from, end);
         let top = clearing::find(entries, rows, reach, none, from, stop);
-        let cut = landing::land_cut(reach, q, top);
-        let t = shown::tally(entries, rows, cut, empty, from, end);
-        ok = rest::judged(rows, ok, kept, p, q, last, cut, t);
+        let below = rest::landing_to(lands, from, stop);
+        let newest = clearing::find(entries, rows, lands, none, from, below);
+        let cuts = totals::cuts_of(q, reach, top, lands, newest);
+        let t = shown::tally(entries, rows, cuts, empty, from, end);
+        ok = rest::judged(rows, ok, kept, p, q, last, cuts, t);
+        after = rest::landed_at(after, p, newest, t);
         p += 1;
     }
-    ok
+    rest::found(ok, after)
 }

@@ -3,6 +3,7 @@
 use crate::Asked;
 use crate::Held;
 use crate::Last;
+use crate::Verdict;
 use crate::areas::areas_ok;
 use crate::before_first;
 use crate::counts_ok;
@@ -12,13 +13,16 @@ use rules::limits::ENTRIES_LENT;
 use rules::limits::PARTITIONS_MAX;
 use rules::limits::ROWS_LENT;
 use rules::limits::WRITERS_MAX;
-use totals::Cut;
+use totals::Cuts;
 use totals::Reach;
 use totals::Tally;
+use totals::Top;
 use totals::shown::closed;
+use totals::weigh::add;
 ghost use mathlib.Core.Path.{_≡_};
 ghost use Rattle.area.specs.Load.{partitionIn};
-ghost use Rattle.partition_sound.specs.Rest.{heldOf, reachOf, startOf, begins, weighedTo, clearedTo, judgedOf};
+ghost use Rattle.partition_sound.specs.Rest.{heldOf, reachOf, startOf, begins, weighedTo, clearedTo};
+ghost use Rattle.partition_sound.specs.Rest.{landingTo, judgedOf, landedAt, foundOf};
 
 pub fn held_of(a: Asked) -> Held
     ensures { λ r. ⌜ r ≡ heldOf a ⌝ }
@@ -45,6 +49,12 @@ pub fn reach_of(a: Asked) -> Reach
         high: a.lce,
         gone: 0,
     }
+}
+
+pub fn lands_of(a: Asked) -> Reach
+    ensures { λ r. ⌜ r ≡ a .lands ⌝ }
+{
+    a.lands
 }
 
 pub fn totals_of(a: Asked) -> [u64; PARTITIONS_MAX]
@@ -116,6 +126,16 @@ pub fn cleared_to(last: Last, from: usize, end: usize) -> usize
     from
 }
 
+// Up to where the newest clearing is sought among what lands: nowhere where nothing does.
+pub fn landing_to(r: Reach, from: usize, stop: usize) -> usize
+    ensures { λ n. ⌜ n ≡ landingTo r from stop ⌝ }
+{
+    if r.high == r.over {
+        return from;
+    }
+    stop
+}
+
 // Partition q is well, after those before it, and weighs its total.
 pub fn judged(
     rows: &[u64],
@@ -124,7 +144,7 @@ pub fn judged(
     p: usize,
     q: Partition,
     last: Last,
-    c: Cut,
+    c: Cuts,
     t: Tally,
 ) -> bool
     ensures { λ r. ⌜ r ≡ judgedOf (now (rows .entry)) ok totals p q last c t ⌝ }
@@ -144,5 +164,40 @@ pub fn judged(
     if PARTITIONS_MAX <= p {
         return false;
     }
-    totals[p] == closed(rows, c, t)
+    totals[p] == closed(rows, c.shown.base, t)
+}
+
+// The total of partition p: a clearing that lands takes out what was there, and what lands comes on top.
+pub fn landed_at(
+    totals: [u64; PARTITIONS_MAX],
+    p: usize,
+    newest: Top,
+    t: Tally,
+) -> [u64; PARTITIONS_MAX]
+    ensures { λ r. ⌜ r ≡ landedAt totals p newest t ⌝ }
+{
+    let mut next = totals;
+    if p < PARTITIONS_MAX {
+        let mut before = 0;
+        if newest.epoch == 0 {
+            before = next[p];
+        }
+        next[p] = add(before, t.more);
+    }
+    next
+}
+
+pub fn found(ok: bool, totals: [u64; PARTITIONS_MAX]) -> Verdict
+    ensures { λ r. ⌜ r ≡ foundOf ok totals ⌝ }
+{
+    Verdict {
+        totals: totals,
+        ok: ok,
+    }
+}
+
+pub fn ok_of(r: Verdict) -> bool
+    ensures { λ b. ⌜ b ≡ r .ok ⌝ }
+{
+    r.ok
 }

@@ -212,7 +212,7 @@ module _ (sh : Shape) where
                   refl))))) (spot ! (at-l 1) (stop !)) (sets ! 3 1 refl tt (tt, record { fits = r₂ .0 })) $
               measuring q P Q 𝓤 H A W b n l pl y ft $
               yield-call fm (q .asked) askedParts (q .askedOf) known-ask (partsOf (y .state)) (in-books (y .state) gb)
-                  (λ _. ask-args ! 3 (y .state) refl refl refl refl) (λ ga.
+                  (λ _. ask-args ! 3 (y .state) refl refl refl refl (no-more !)) (λ ga.
               land ! (spot ! (at-h 0) (stop !)) (sets ! 4 0 refl tt (q .asked .wt 𝓤 H A W (asksOf q (y .state)) ga)) $
               assigns ! (addr ! (from ! (fld ! refl (hop ! (look-in ! 2 (sub ! 0 refl (within ! 1 refl))) (stop !)))))
                   (spot ! (at-p 1) (stop !)) (sets ! 5 1 refl tt (tt, tt)) $

@@ -2,9 +2,12 @@
 -- sound, by name and contract, so that no function of the store is known here.
 --     state, clock, writers, partitions, totals      types.        books     the machine value of the books
 --     Ask              the two callees: what the lots' test needs of the books, and the test
---     askedParts, partsOf      the types of what the first is passed, and that of the books
---     Asks, Rests      their contracts.        asksOf, restOf      what they yield, of the books
---     in-books         the parts of the books are in range.        ask-args    they are read, as operands
+--     Weigh            the same where the first is passed values too, and the test finds a struct: what lands as well
+--     weighedParts, partsWith      the types of what the first is passed: parts of the books, and values; these
+--     askedParts, partsOf          the same without values
+--     Asks, Rests      the contracts of an Ask.        asksOf, restOf      what they yield, of the books
+--     Weighs, Founds   those of a Weigh.        weighsOf, foundBy      what they yield, of the books and the values
+--     in-books, in-books-with      what is passed is in range.        ask-args    it is read, as operands
 -- Assumes nothing but where a `Given` is asked.
 use mathlib.Core.Path.{_≡_, refl, sym, subst, _∙_}
 use mathlib.Core.Bool.{Bool}
@@ -18,7 +21,7 @@ use mir.Val.{Val}
 use prog.Wp.{Heap, Env}
 use ghost.Atoms.{Atoms}
 use types.Kit.{Given, Item, nth}
-use types.Run.{Opd, Opds, fld, stop, load, and-then, no-more}
+use types.Run.{Opd, Opds, fld, stop, load, and-then}
 use types.Part.{Part, sub, look-in}
 use denote.Laws.{Is}
 use denote.Array.{Array, array-vals, array-tells, array-lawful, array-makes}
@@ -46,7 +49,7 @@ use Rattle.walks.proofs.Frame.{Frame, Use, Has, at, holds}
 use Rattle.walks.proofs.Groups.{part-of}
 use Rattle.walks.proofs.Locals.{Lies, block, spot}
 use Rattle.walks.proofs.Shown.{Shown, flag}
-use Rattle.walks.proofs.Values.{Nums, vals, Fits}
+use Rattle.walks.proofs.Values.{Nums, Fits, Of, applied}
 use Rattle.shapes.proofs.Two.{Finds2}
 
 abbrev pub state : Shown
@@ -91,12 +94,27 @@ pub record Ask : Type 2 where
   pub askedOf : Clock → RwTxns → Partitions → List ℕ → asked .row .Denot
   pub soundOf : List Entry → List ℕ → asked .row .Denot → Bool
 
--- what the first callee is passed
+-- what the first callee is passed: parts of the books, and values
+abbrev pub weighedParts : List Shown → List Shown
+weighedParts n = clock ∷ writers ∷ partitions ∷ totals ∷ n
+
+abbrev pub partsWith : (n : List Shown) → State → Nums 0 tt n → Nums 0 tt (weighedParts n)
+partsWith n s t = (s .clock, (s .writers, (s .partitions, (s .totals, t))))
+
 abbrev pub askedParts : List Shown
-askedParts = clock ∷ writers ∷ partitions ∷ totals ∷ []
+askedParts = weighedParts []
 
 abbrev pub partsOf : State → Nums 0 tt askedParts
-partsOf s = (s .clock, (s .writers, (s .partitions, (s .totals, tt))))
+partsOf s = partsWith [] s tt
+
+-- a test of the lots that also weighs what lands: what is asked is by the values too, and what is found is a struct
+pub record Weigh (n : List Shown) : Type 2 where
+  pub asked : Shown
+  pub found : Shown
+  pub ask : Name
+  pub rest : Name
+  pub askedOf : Of (weighedParts n) (asked .row .Denot)
+  pub foundOf : List Entry → List ℕ → asked .row .Denot → found .row .Denot
 
 module _ (q : Ask) where
   abbrev pub asksOf : State → q .asked .row .Denot
@@ -113,14 +131,37 @@ module _ (q : Ask) where
     abbrev pub Rests : Contract 𝓤
     Rests = Finds2 𝓤 flag (q .asked ∷ []) T.the-row u64 (q .soundOf) H A
 
+module _ {n : List Shown} (w : Weigh n) where
+  abbrev pub weighsOf : State → Nums 0 tt n → w .asked .row .Denot
+  weighsOf s t = applied 0 tt (weighedParts n) (w .askedOf) (partsWith n s t)
+
+  -- the entries and the rows that are lent
+  abbrev pub foundBy : State → List Entry → List ℕ → Nums 0 tt n → w .found .row .Denot
+  foundBy s es rs t = w .foundOf es rs (weighsOf s t)
+
+  module _ {M : Type 1} (𝓤 : URA M) (H : Heap 𝓤) (A : Atoms 𝓤) where
+    abbrev pub Weighs : Contract 𝓤
+    Weighs = Yields 𝓤 (w .asked) (weighedParts n) (w .askedOf) H A
+
+    abbrev pub Founds : Contract 𝓤
+    Founds = Finds2 𝓤 (w .found) (w .asked ∷ []) T.the-row u64 (w .foundOf) H A
+
 -- ---- the parts of the books, which are local 1, as operands
+pub in-books-with : (n : List Shown) (s : State) (t : Nums 0 tt n) → Is K.the-row s (books s ∷ []) → Fits 0 tt n t
+    → Fits 0 tt (weighedParts n) (partsWith n s t)
+in-books-with n s t g h = let f = LL.owed K.the-type K′.the-laws s _ g in (f .0, (f .1 .0, (f .1 .1 .1 .1 .0, (subst (λ
+    (ts : List ℕ). Is (totals .row) ts (totals .val ts ∷ [])) (map-id (s .totals)) (f .1 .1 .1 .1 .1 .0), h))))
+
 pub in-books : (s : State) → Is K.the-row s (books s ∷ []) → Fits 0 tt askedParts (partsOf s)
-in-books s g = let f = LL.owed K.the-type K′.the-laws s _ g in (f .0, (f .1 .0, (f .1 .1 .1 .1 .0, (subst (λ (ts : List
-    ℕ). Is (totals .row) ts (totals .val ts ∷ [])) (map-id (s .totals)) (f .1 .1 .1 .1 .1 .0), tt))))
+in-books s g = in-books-with [] s tt g tt
+
+-- the fields that are passed, and the operands os behind them
+abbrev pub weighedFields : List Operand → List Operand
+weighedFields os = copy (place 1 (field 0 ∷ [])) ∷ copy (place 1 (field 1 ∷ [])) ∷ copy (place 1 (field 4 ∷ [])) ∷ copy
+    (place 1 (field 5 ∷ [])) ∷ os
 
 abbrev pub askedFields : List Operand
-askedFields = copy (place 1 (field 0 ∷ [])) ∷ copy (place 1 (field 1 ∷ [])) ∷ copy (place 1 (field 4 ∷ [])) ∷ copy
-    (place 1 (field 5 ∷ [])) ∷ []
+askedFields = weighedFields []
 
 -- a group that begins with the books
 whole : {M : Type 1} {𝓤 : URA M} {H : Heap 𝓤} {A : Atoms 𝓤} {K : Type 0} (W : Given 𝓤 H A) (t : K) (j : Item 𝓤)
@@ -141,7 +182,9 @@ module _ {M : Type 1} {𝓤 : URA M} {H : Heap 𝓤} {A : Atoms 𝓤} {K : Type 
       .totals)) (load t (spot t (lies ∙ typed) (fld t refl (stop t))) (look-in t i (sub t 5 refl (whole W t _ F m s
       here typed has))))
 
-  pub ask-args : Opds K W Γ E askedFields (vals 0 tt askedParts (partsOf s))
-  ask-args = and-then t (load t (spot t (lies ∙ typed) (fld t refl (stop t))) (look-in t i (sub t 0 refl (whole W t _ F
-      m s here typed has)))) (and-then t (load t (spot t (lies ∙ typed) (fld t refl (stop t))) (look-in t i (sub t 1
-      refl (whole W t _ F m s here typed has)))) (and-then t partitions-arg (and-then t totals-arg (no-more t))))
+  -- and what stands behind them
+  pub ask-args : {os : List Operand} {vs : List Val} → Opds K W Γ E os vs → Opds K W Γ E (weighedFields os) (clock .val
+      (s .clock) ∷ writers .val (s .writers) ∷ partitions .val (s .partitions) ∷ totals .val (s .totals) ∷ vs)
+  ask-args os = and-then t (load t (spot t (lies ∙ typed) (fld t refl (stop t))) (look-in t i (sub t 0 refl (whole W t _
+      F m s here typed has)))) (and-then t (load t (spot t (lies ∙ typed) (fld t refl (stop t))) (look-in t i (sub t 1
+      refl (whole W t _ F m s here typed has)))) (and-then t partitions-arg (and-then t totals-arg os)))

@@ -3,7 +3,6 @@ pub mod Callers
 pub mod Change
 pub mod Core
 pub mod Folds
-pub mod Land
 pub mod Load
 pub mod Look
 pub mod Roll
@@ -12,4 +11,5 @@ pub mod Saving
 pub mod Scan
 pub mod Shape
 pub mod Tail
+pub mod Then
 pub mod Two

@@ -1,6 +1,6 @@
 -- A public function that changes every lot, and its walk: books, entries: &mut [Entry], rows: &mut [u64], and a number.
--- It asks whether the lots are sound, its core answers by value, the lots land (Land.antt), and what this answers says
--- whether to go on; a function that is lent both areas changes them or leaves them, and hands back the partitions.
+-- It asks whether the lots are sound and weighs what lands, its core answers by value, and this answer says whether to
+-- go on; a function that is lent both areas changes them or leaves them, and hands back the partitions.
 --     Roll             such a function: its callees, what they yield, and what its contract says
 --     function         its MIR, by the symbols of its callees.        ended, clauses    its contract
 --     Core, Goes, Rolled, Fin      the contracts of its callees
@@ -58,9 +58,8 @@ use Rattle.walks.proofs.Loans.{Lefts, lend-call}
 use Rattle.walks.proofs.Shown.{Shown, number, flag}
 use Rattle.walks.proofs.Calls.{Yields, yield-call}
 use Rattle.walks.proofs.Values.{values, spelt, own-values}
-use Rattle.shapes.proofs.Core.{state, partitions, totals, books, Ask, askedParts, partsOf, askedFields, asksOf}
-use Rattle.shapes.proofs.Core.{restOf, Asks, Rests, in-books, ask-args, partitions-arg}
-use Rattle.shapes.proofs.Land.{Lands, landedBy, Landed}
+use Rattle.shapes.proofs.Core.{state, partitions, books, Weigh, weighedParts, partsWith, weighedFields, weighsOf}
+use Rattle.shapes.proofs.Core.{foundBy, Weighs, Founds, in-books, in-books-with, ask-args, partitions-arg}
 use Rattle.shapes.proofs.Two.{share2-call}
 
 -- how a function that is lent both areas, the partitions, a number and whether to go on leaves them
@@ -68,22 +67,21 @@ abbrev pub Rel : Type 1
 Rel = List Entry → List ℕ → Partitions → ℕ → Bool → Partitions → List Entry → List ℕ → Type 0
 
 pub record Roll : Type 2 where
-  pub asks : Ask
+  pub weighs : Weigh (number ∷ [])
   pub plan : Shown
   pub answer : Shown
-  pub lands : Lands plan (number ∷ [])
   pub core : Name
   pub goes : Name
   pub roll : Name
   pub fin : Name
-  pub planOf : State → Bool → ℕ → plan .row .Denot
+  pub planOf : State → weighs .found .row .Denot → ℕ → plan .row .Denot
   pub goOf : plan .row .Denot → Bool
   pub rolls : Rel
   pub answerOf : plan .row .Denot → Partitions → answer .row .Denot
   pub Ends : State → List Entry → List ℕ → ℕ → answer .row .Denot → List Entry → List ℕ → Type 0
   pub ends : (s : State) → Is K.the-row s (books s ∷ []) → (es : List Entry) (rs : List ℕ) (i : ℕ) → let w =
-      landedBy lands s es rs (i, tt) (planOf s (restOf asks s es rs) i) in (ps : Partitions) (es′ : List Entry) (rs′ :
-      List ℕ) → rolls es rs (s .partitions) i (goOf w) ps es′ rs′ → Ends s es rs i (answerOf w ps) es′ rs′
+      planOf s (foundBy weighs s es rs (i, tt)) i in (ps : Partitions) (es′ : List Entry) (rs′ : List ℕ) → rolls es rs
+      (s .partitions) i (goOf w) ps es′ rs′ → Ends s es rs i (answerOf w ps) es′ rs′
 
 abbrev word : Ty
 word = tyInt w64
@@ -94,15 +92,11 @@ entry = pointee (T.the-row .written)
 abbrev params : List Ty
 params = K′.mir ∷ sliceTy (tyRef (named 0) mut entry) ∷ sliceTy (tyRef (named 1) mut word) ∷ word ∷ []
 
-abbrev temps : (q : Ask) (P : Shown) → Lands P (number ∷ []) → List Ty
-temps q P l = q .asked .mir ∷ tyBool ∷ P .mir ∷ l .landing .mir ∷ totals .mir ∷ P .mir ∷ tyBool ∷ partitions .mir ∷
-    tyRef erased imm entry ∷ sliceTy (tyRef erased imm entry) ∷ tyRef erased imm word ∷ sliceTy (tyRef erased imm
-    word) ∷ tyRef erased imm entry ∷ sliceTy (tyRef erased imm entry) ∷ tyRef erased imm word ∷ sliceTy (tyRef erased
-    imm word) ∷ tyRef erased mut entry ∷ sliceTy (tyRef erased mut entry) ∷ tyRef erased mut word ∷ sliceTy (tyRef
-    erased mut word) ∷ []
-
-abbrev lentSlots : List (Slot 2)
-lentSlots = mutSliceOf (0 ∷ []) tt (plain (λ _. T.the-row)) ∷ mutSliceOf (1 ∷ []) tt (plain (λ _. u64)) ∷ []
+-- what is asked, what is found, the plan, whether to go on, the partitions; both areas, lent on as `&` and as `&mut`
+abbrev temps : Weigh (number ∷ []) → Shown → List Ty
+temps q P = q .asked .mir ∷ q .found .mir ∷ P .mir ∷ tyBool ∷ partitions .mir ∷ tyRef erased imm entry ∷ sliceTy (tyRef
+    erased imm entry) ∷ tyRef erased imm word ∷ sliceTy (tyRef erased imm word) ∷ tyRef erased mut entry ∷ sliceTy
+    (tyRef erased mut entry) ∷ tyRef erased mut word ∷ sliceTy (tyRef erased mut word) ∷ []
 
 -- the function that is lent both
 abbrev rollSlots : List (Slot 2)
@@ -118,8 +112,8 @@ rollClauses 𝓤 R κs a = record { ghost = Unit {0}; requires = λ _. emp 𝓤;
     .0 .now) (a .1 .1 .0) (a .1 .1 .1 .0) (a .1 .1 .1 .1 .0) r (e .0 .now) (e .1 .0 .now)) }
 
 module _ (sh : Roll) where
-  abbrev q : Ask
-  q = sh .asks
+  abbrev q : Weigh (number ∷ [])
+  q = sh .weighs
 
   abbrev P : Shown
   P = sh .plan
@@ -127,31 +121,23 @@ module _ (sh : Roll) where
   abbrev Q : Shown
   Q = sh .answer
 
-  abbrev l : Lands P (number ∷ [])
-  l = sh .lands
-
   abbrev pub function : Fn
   function = record {
     lifetimes = 2;
     outlives = [];
     params = 4;
-    locals = local (Q .mir) valueLocal ∷ (asLocals params ++ (asLocals (temps q P l) ++ []));
-    body = seq (call (q .ask) askedFields (place 5 []))
-      (reborrow 2 13 14 T′.mir
-      (reborrow 3 15 16 word
-      (seq (call (q .rest) (copy (place 14 []) ∷ copy (place 16 []) ∷ copy (place 5 []) ∷ []) (place 6 []))
+    locals = local (Q .mir) valueLocal ∷ (asLocals params ++ (asLocals (temps q P) ++ []));
+    body = seq (call (q .ask) (weighedFields (copy (place 4 []) ∷ [])) (place 5 []))
+      (reborrow 2 10 11 T′.mir
+      (reborrow 3 12 13 word
+      (seq (call (q .rest) (copy (place 11 []) ∷ copy (place 13 []) ∷ copy (place 5 []) ∷ []) (place 6 []))
       (seq (call (sh .core) (copy (place 1 []) ∷ copy (place 6 []) ∷ copy (place 4 []) ∷ []) (place 7 []))
-      (seq (call (l .make) (copy (place 1 []) ∷ copy (place 7 []) ∷ copy (place 4 []) ∷ []) (place 8 []))
-      (reborrow 2 17 18 T′.mir
-      (reborrow 3 19 20 word
-      (seq (call (l .land) (copy (place 18 []) ∷ copy (place 20 []) ∷ copy (place 8 []) ∷ []) (place 9 []))
-      (seq (call (l .answer) (copy (place 7 []) ∷ copy (place 9 []) ∷ []) (place 10 []))
-      (seq (call (sh .goes) (copy (place 10 []) ∷ []) (place 11 []))
-      (reborrow 2 21 22 T′.mir
-      (reborrow 3 23 24 word
-      (seq (call (sh .roll) (copy (place 22 []) ∷ copy (place 24 []) ∷ copy (place 1 (field 4 ∷ [])) ∷ copy (place 4
-          []) ∷ copy (place 11 []) ∷ []) (place 12 []))
-      (seq (call (sh .fin) (copy (place 10 []) ∷ copy (place 12 []) ∷ []) (place 0 [])) return))))))))))))));
+      (seq (call (sh .goes) (copy (place 7 []) ∷ []) (place 8 []))
+      (reborrow 2 14 15 T′.mir
+      (reborrow 3 16 17 word
+      (seq (call (sh .roll) (copy (place 15 []) ∷ copy (place 17 []) ∷ copy (place 1 (field 4 ∷ [])) ∷ copy (place 4
+          []) ∷ copy (place 8 []) ∷ []) (place 9 []))
+      (seq (call (sh .fin) (copy (place 7 []) ∷ copy (place 9 []) ∷ []) (place 0 [])) return)))))))));
   }
 
   abbrev pub ended : Ended
@@ -170,7 +156,7 @@ module _ (sh : Roll) where
 
     module _ (H : Heap 𝓤) (A : Atoms 𝓤) where
       abbrev pub Core : Contract 𝓤
-      Core = Yields 𝓤 P (state ∷ flag ∷ number ∷ []) (sh .planOf) H A
+      Core = Yields 𝓤 P (state ∷ q .found ∷ number ∷ []) (sh .planOf) H A
 
       abbrev pub Goes : Contract 𝓤
       Goes = Yields 𝓤 flag (P ∷ []) (sh .goOf) H A
@@ -182,10 +168,9 @@ module _ (sh : Roll) where
       Fin = Yields 𝓤 Q (P ∷ partitions ∷ []) (sh .answerOf) H A
 
   module _ {M : Type 1} (𝓤 : URA M) (H : Heap 𝓤) (A : Atoms 𝓤) (W : Given 𝓤 H A) (𝓣 : Tables 𝓤 H) (known-ask : Triple 𝓤
-      (𝓣 .C (q .ask)) (Asks q 𝓤 H A)) (known-rest : Triple 𝓤 (𝓣 .C (q .rest)) (Rests q 𝓤 H A)) (known-core : Triple 𝓤 (𝓣
-      .C (sh .core)) (Core 𝓤 H A)) (known-lands : Landed l 𝓤 H A 𝓣) (known-goes : Triple 𝓤 (𝓣 .C (sh .goes)) (Goes 𝓤 H
-      A)) (known-roll : Triple 𝓤 (𝓣 .C (sh .roll)) (Rolled 𝓤 H A)) (known-fin : Triple 𝓤 (𝓣 .C (sh .fin)) (Fin 𝓤 H A))
-      where
+      (𝓣 .C (q .ask)) (Weighs q 𝓤 H A)) (known-rest : Triple 𝓤 (𝓣 .C (q .rest)) (Founds q 𝓤 H A)) (known-core : Triple
+      𝓤 (𝓣 .C (sh .core)) (Core 𝓤 H A)) (known-goes : Triple 𝓤 (𝓣 .C (sh .goes)) (Goes 𝓤 H A)) (known-roll : Triple 𝓤 (𝓣
+      .C (sh .roll)) (Rolled 𝓤 H A)) (known-fin : Triple 𝓤 (𝓣 .C (sh .fin)) (Fin 𝓤 H A)) where
     abbrev fm : FmC 𝓤 H (W .laws) (𝓣 .C)
     fm = fmOf 𝓤 H (W .laws) 𝓣
 
@@ -205,21 +190,15 @@ module _ (sh : Roll) where
       abbrev passed : List Val
       passed = books s ∷ held x₁ ∷ held x₂ ∷ vint w64 i ∷ []
 
-      abbrev ok : Bool
-      ok = restOf q s (x₁ .list) (x₂ .list)
+      -- what is asked, what is found, and the plan by it
+      abbrev asks : q .asked .row .Denot
+      asks = weighsOf q s (i, tt)
 
-      -- what the core yields, what lands by it, the totals, and what is answered then
-      abbrev c : P .row .Denot
-      c = sh .planOf s ok i
-
-      abbrev new : l .landing .row .Denot
-      new = l .landingOf s c i
-
-      abbrev us : List ℕ
-      us = l .landedOf (x₁ .list) (x₂ .list) new
+      abbrev found : q .found .row .Denot
+      found = foundBy q s (x₁ .list) (x₂ .list) (i, tt)
 
       abbrev w : P .row .Denot
-      w = l .finOf c us
+      w = sh .planOf s found i
 
       abbrev go : Bool
       go = sh .goOf w
@@ -272,77 +251,56 @@ module _ (sh : Roll) where
         abbrev callee : Callee 𝓤 H A (𝓣 .C) (sh .roll) rollEnded
         callee = record { clauses = rollClauses 𝓤 (sh .rolls); met = known-roll; free = λ κs a. (tt, id⊢ 𝓤 _) }
 
-        module _ (o : ℕ) (ps : Blocks (asLocals params)) (ts : Blocks (asLocals (temps q P l))) where
+        module _ (o : ℕ) (ps : Blocks (asLocals params)) (ts : Blocks (asLocals (temps q P))) where
           abbrev Params : Env 𝓤 H
           Params = envOf (asLocals params) ps
 
           abbrev Temps : Env 𝓤 H
-          Temps = envOf (asLocals (temps q P l)) ts
+          Temps = envOf (asLocals (temps q P)) ts
 
           abbrev env : Env 𝓤 H
           env = (Q .mir, o) ∷ (Params ++ (Temps ++ []))
 
           -- [the entries; the rows; the frames; room for the result]
           body : Sq W (‵ (token x₁) ∷ ‵ (mutAt (named 0) x₁ (x₁ .list)) ∷ ‵ (token x₂) ∷ ‵ (mutAt (named 1) x₂ (x₂
-              .list)) ∷ Frame Params (map holds passed) ∷ Frame Temps (bares (asLocals (temps q P l))) ∷ ‵ (froom (Q
+              .list)) ∷ Frame Params (map holds passed) ∷ Frame Temps (bares (asLocals (temps q P))) ∷ ‵ (froom (Q
               .mir) o zero) ∷ ‵ (fdies (Q .mir) o) ∷ []) (runs (𝓣 .C) (𝓣 .Λ) env (function .body) (atRet env Post))
           body =
-              yield-call fm (q .asked) askedParts (q .askedOf) known-ask (partsOf s) (in-books s gs) (λ _. ask-args ! 5
-                  s refl refl refl refl) (λ ga.
-              land ! (from ! (stop !)) (sets ! 5 0 refl tt (q .asked .wt 𝓤 H A W (asksOf q s) ga)) $
+              yield-call fm (q .asked) (weighedParts (number ∷ [])) (q .askedOf) known-ask (partsWith (number ∷ []) s
+                  (i, tt)) (in-books-with (number ∷ []) s (i, tt) gs (gi, tt)) (λ _. ask-args ! 5 s refl refl refl refl
+                  (and-then ! (get ! 5 3 refl refl refl) (no-more !))) (λ ga.
+              land ! (from ! (stop !)) (sets ! 5 0 refl tt (q .asked .wt 𝓤 H A W asks ga)) $
               assigns ! (addr ! (from ! (fld ! refl (hop ! (look-in ! 4 (sub ! 0 refl (within ! 1 refl))) (stop !)))))
-                  (from ! (stop !)) (sets ! 5 8 refl tt (tt, tt)) $
-              assigns ! (agg ! (and-then ! (get ! 5 8 refl refl refl) (and-then ! (load ! (from ! (fld ! refl (stop
-                  !))) (look-in ! 4 (sub ! 1 refl (within ! 1 refl)))) (no-more !)))) (from ! (stop !)) (sets ! 5 9
+                  (from ! (stop !)) (sets ! 5 5 refl tt (tt, tt)) $
+              assigns ! (agg ! (and-then ! (get ! 5 5 refl refl refl) (and-then ! (load ! (from ! (fld ! refl (stop
+                  !))) (look-in ! 4 (sub ! 1 refl (within ! 1 refl)))) (no-more !)))) (from ! (stop !)) (sets ! 5 6
                   refl tt (tt, (tt, (record { fits = r₁ .0 }, tt)))) $
               assigns ! (addr ! (from ! (fld ! refl (hop ! (look-in ! 4 (sub ! 0 refl (within ! 2 refl))) (stop !)))))
-                  (from ! (stop !)) (sets ! 5 10 refl tt (tt, tt)) $
-              assigns ! (agg ! (and-then ! (get ! 5 10 refl refl refl) (and-then ! (load ! (from ! (fld ! refl (stop
-                  !))) (look-in ! 4 (sub ! 1 refl (within ! 2 refl)))) (no-more !)))) (from ! (stop !)) (sets ! 5 11
+                  (from ! (stop !)) (sets ! 5 7 refl tt (tt, tt)) $
+              assigns ! (agg ! (and-then ! (get ! 5 7 refl refl refl) (and-then ! (load ! (from ! (fld ! refl (stop
+                  !))) (look-in ! 4 (sub ! 1 refl (within ! 2 refl)))) (no-more !)))) (from ! (stop !)) (sets ! 5 8
                   refl tt (tt, (tt, (record { fits = r₂ .0 }, tt)))) $
-              share2-call fm T.the-row u64 flag (q .asked ∷ []) (q .soundOf) known-rest (named 0) (named 1) x₁ x₂ r₁ r₂
-                  (λ _. (asksOf q s, tt)) (λ _. (ga, tt)) ok (λ _. refl) (λ _ _ _ _ _ _. and-then ! (get ! 6 9 refl refl
-                  refl) (and-then ! (get ! 6 11 refl refl refl) (and-then ! (get ! 6 0 refl refl refl) (no-more !))))
-                  (λ gf.
-              land ! (from ! (stop !)) (sets ! 5 1 refl tt (tt, tt)) $
-              yield-call fm P (state ∷ flag ∷ number ∷ []) (sh .planOf) known-core (s, (ok, (i, tt))) (gs, (refl, (gi,
-                  tt))) (λ _. and-then ! (get ! 5 0 refl refl refl) (and-then ! (get ! 6 1 refl refl refl) (and-then !
-                  (get ! 5 3 refl refl refl) (no-more !)))) (λ gc.
-              land ! (from ! (stop !)) (sets ! 5 2 refl tt (P .wt 𝓤 H A W c gc)) $
-              yield-call fm (l .landing) (state ∷ P ∷ number ∷ []) (l .landingOf) (known-lands .0) (s, (c, (i, tt)))
-                  (gs, (gc, (gi, tt))) (λ _. and-then ! (get ! 5 0 refl refl refl) (and-then ! (get ! 6 2 refl refl
-                  refl) (and-then ! (get ! 5 3 refl refl refl) (no-more !)))) (λ gn.
-              land ! (from ! (stop !)) (sets ! 5 3 refl tt (l .landing .wt 𝓤 H A W new gn)) $
-              assigns ! (addr ! (from ! (fld ! refl (hop ! (look-in ! 4 (sub ! 0 refl (within ! 1 refl))) (stop !)))))
-                  (from ! (stop !)) (sets ! 5 12 refl tt (tt, tt)) $
-              assigns ! (agg ! (and-then ! (get ! 5 12 refl refl refl) (and-then ! (load ! (from ! (fld ! refl (stop
-                  !))) (look-in ! 4 (sub ! 1 refl (within ! 1 refl)))) (no-more !)))) (from ! (stop !)) (sets ! 5 13
-                  refl tt (tt, (tt, (record { fits = r₁ .0 }, tt)))) $
-              assigns ! (addr ! (from ! (fld ! refl (hop ! (look-in ! 4 (sub ! 0 refl (within ! 2 refl))) (stop !)))))
-                  (from ! (stop !)) (sets ! 5 14 refl tt (tt, tt)) $
-              assigns ! (agg ! (and-then ! (get ! 5 14 refl refl refl) (and-then ! (load ! (from ! (fld ! refl (stop
-                  !))) (look-in ! 4 (sub ! 1 refl (within ! 2 refl)))) (no-more !)))) (from ! (stop !)) (sets ! 5 15
-                  refl tt (tt, (tt, (record { fits = r₂ .0 }, tt)))) $
-              share2-call fm T.the-row u64 totals (l .landing ∷ []) (l .landedOf) (known-lands .1) (named 0) (named 1)
-                  x₁ x₂ r₁ r₂ (λ _. (new, tt)) (λ _. (gn, tt)) us (λ _. refl) (λ _ _ _ _ _ _. and-then ! (get ! 6 13
-                  refl refl refl) (and-then ! (get ! 6 15 refl refl refl) (and-then ! (get ! 6 3 refl refl refl)
-                  (no-more !)))) (λ gu.
-              land ! (from ! (stop !)) (sets ! 5 4 refl tt (totals .wt 𝓤 H A W us gu)) $
-              yield-call fm P (P ∷ totals ∷ []) (l .finOf) (known-lands .2) (c, (us, tt)) (gc, (gu, tt)) (λ _. and-then
-                  ! (get ! 6 2 refl refl refl) (and-then ! (get ! 6 4 refl refl refl) (no-more !))) (λ gw.
-              land ! (from ! (stop !)) (sets ! 5 5 refl tt (P .wt 𝓤 H A W w gw)) $
-              yield-call fm flag (P ∷ []) (sh .goOf) known-goes (w, tt) (gw, tt) (λ _. and-then ! (get ! 6 5 refl refl
+              share2-call fm T.the-row u64 (q .found) (q .asked ∷ []) (q .foundOf) known-rest (named 0) (named 1) x₁ x₂
+                  r₁ r₂ (λ _. (asks, tt)) (λ _. (ga, tt)) found (λ _. refl) (λ _ _ _ _ _ _. and-then ! (get ! 6 6 refl
+                  refl refl) (and-then ! (get ! 6 8 refl refl refl) (and-then ! (get ! 6 0 refl refl refl) (no-more
+                  !)))) (λ gf.
+              land ! (from ! (stop !)) (sets ! 5 1 refl tt (q .found .wt 𝓤 H A W found gf)) $
+              yield-call fm P (state ∷ q .found ∷ number ∷ []) (sh .planOf) known-core (s, (found, (i, tt))) (gs, (gf,
+                  (gi, tt))) (λ _. and-then ! (get ! 5 0 refl refl refl) (and-then ! (get ! 6 1 refl refl refl)
+                  (and-then ! (get ! 5 3 refl refl refl) (no-more !)))) (λ gw.
+              land ! (from ! (stop !)) (sets ! 5 2 refl tt (P .wt 𝓤 H A W w gw)) $
+              yield-call fm flag (P ∷ []) (sh .goOf) known-goes (w, tt) (gw, tt) (λ _. and-then ! (get ! 6 2 refl refl
                   refl) (no-more !)) (λ gg.
-              land ! (from ! (stop !)) (sets ! 5 6 refl tt (tt, tt)) $
+              land ! (from ! (stop !)) (sets ! 5 3 refl tt (tt, tt)) $
               assigns ! (addr ! (from ! (fld ! refl (hop ! (look-in ! 4 (sub ! 0 refl (within ! 1 refl))) (stop !)))))
-                  (from ! (stop !)) (sets ! 5 16 refl tt (tt, tt)) $
-              assigns ! (agg ! (and-then ! (get ! 5 16 refl refl refl) (and-then ! (load ! (from ! (fld ! refl (stop
-                  !))) (look-in ! 4 (sub ! 1 refl (within ! 1 refl)))) (no-more !)))) (from ! (stop !)) (sets ! 5 17
+                  (from ! (stop !)) (sets ! 5 9 refl tt (tt, tt)) $
+              assigns ! (agg ! (and-then ! (get ! 5 9 refl refl refl) (and-then ! (load ! (from ! (fld ! refl (stop
+                  !))) (look-in ! 4 (sub ! 1 refl (within ! 1 refl)))) (no-more !)))) (from ! (stop !)) (sets ! 5 10
                   refl tt (tt, (tt, (record { fits = r₁ .0 }, tt)))) $
               assigns ! (addr ! (from ! (fld ! refl (hop ! (look-in ! 4 (sub ! 0 refl (within ! 2 refl))) (stop !)))))
-                  (from ! (stop !)) (sets ! 5 18 refl tt (tt, tt)) $
-              assigns ! (agg ! (and-then ! (get ! 5 18 refl refl refl) (and-then ! (load ! (from ! (fld ! refl (stop
-                  !))) (look-in ! 4 (sub ! 1 refl (within ! 2 refl)))) (no-more !)))) (from ! (stop !)) (sets ! 5 19
+                  (from ! (stop !)) (sets ! 5 11 refl tt (tt, tt)) $
+              assigns ! (agg ! (and-then ! (get ! 5 11 refl refl refl) (and-then ! (load ! (from ! (fld ! refl (stop
+                  !))) (look-in ! 4 (sub ! 1 refl (within ! 2 refl)))) (no-more !)))) (from ! (stop !)) (sets ! 5 12
                   refl tt (tt, (tt, (record { fits = r₂ .0 }, tt)))) $
               fjoin ! $ move ! (1 ∷ 2 ∷ []) $ fjoin ! $ move ! (1 ∷ 0 ∷ []) $ gathers ! loans (nows loans) $
               -- [both slices; the frames; room for the result]
@@ -353,23 +311,23 @@ module _ (sh : Roll) where
                   (sem 𝓤 H A (lasts rollEnded (lfts loans g) (args g) ws)) (sem 𝓤 H A X)) (leaves g ws .1) (id⊢ 𝓤 _)))
                   (partitions .val) (partitions .tells) callee (λ r
                   zs. sh .rolls (x₁ .list) (x₂ .list) (s .partitions) i go r (zs .0) (zs .1 .0)) (λ g r ws. id⊢ 𝓤 _)
-                  (λ g _ _. and-then ! (get ! 3 17 refl refl refl) (and-then ! (get ! 3 19 refl refl refl) (and-then !
+                  (λ g _ _. and-then ! (get ! 3 10 refl refl refl) (and-then ! (get ! 3 12 refl refl refl) (and-then !
                   (partitions-arg ! 2 s refl refl refl refl) (and-then ! (get ! 2 3 refl refl refl) (and-then ! (get ! 3
-                  6 refl refl refl) (no-more !)))))) (λ r zs same rel gr.
-              land ! (from ! (stop !)) (sets ! 2 7 refl tt (partitions .wt 𝓤 H A W r gr)) $
+                  3 refl refl refl) (no-more !)))))) (λ r zs same rel gr.
+              land ! (from ! (stop !)) (sets ! 2 4 refl tt (partitions .wt 𝓤 H A W r gr)) $
               yield-call fm Q (P ∷ partitions ∷ []) (sh .answerOf) known-fin (w, (r, tt)) (gw, (gr, tt)) (λ _. and-then
-                  ! (get ! 3 5 refl refl refl) (and-then ! (get ! 3 7 refl refl refl) (no-more !))) (λ gz.
+                  ! (get ! 3 2 refl refl refl) (and-then ! (get ! 3 4 refl refl refl) (no-more !))) (λ gz.
               land ! (from ! (stop !)) (init ! 3 refl (Q .wt 𝓤 H A W (sh .answerOf w r) gz)) $
               returns ! (look ! 3 refl) $ forget ! 3 refl $ move ! (3 ∷ 4 ∷ 1 ∷ 2 ∷ []) $ free1 ! $ frees-frame ! Params
                   _ $ frees-frame ! Temps [] $ free0 ! $ scatters ! loans zs $ fsplit ! $ move ! (2 ∷ []) $ fsplit ! $
-              by ! (exits gs r (zs .0) (zs .1 .0) rel (same .0) (same .1 .0) gz))))))))))
+              by ! (exits gs r (zs .0) (zs .1 .0) rel (same .0) (same .1 .0) gz)))))))
 
         walk : ent 𝓤 (onEntry 𝓤 H A (ended .signature) κs qs x xvs) (WpFn 𝓤 H (𝓣 .C) (𝓣 .Λ) function passed Post)
         walk =
             qed W ((‵ (token x₁) ⊛ (‵ (token x₂) ⊛ ‵ ftrue)) ∷ ‵ (owns (typesAt {n = 2} (ended .signature .params) κs) x
                 xvs) ∷ []) ∵
             enter ! (𝓣 .C) (𝓣 .Λ) function passed _ $ alloc1 ! (λ o. allocs-frame ! (asLocals params) (λ ps.
-                allocs-frame ! (asLocals (temps q P l)) (λ ts. alloc0 ! $ params1 ! $ move ! (1 ∷ []) $ passes-frame !
+                allocs-frame ! (asLocals (temps q P)) (λ ts. alloc0 ! $ params1 ! $ move ! (1 ∷ []) $ passes-frame !
                 params ps _ well $
             -- [the arguments; the other locals; the result; the tokens; what the parameters own]
             move ! (4 ∷ 5 ∷ []) $ split ! $ move ! (1 ∷ []) $ split ! $ move ! (1 ∷ []) $ drop ! $ move ! (2 ∷ []) $

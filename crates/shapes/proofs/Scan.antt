@@ -263,7 +263,7 @@ module _ (sh : Scan) where
               assigns ! (of-opd ! (load ! (from ! (fld ! refl (stop !))) (look-in ! 4 (sub ! 1 refl (within ! 3
                   refl))))) (spot ! (at-t 0) (stop !)) (sets ! 5 0 refl tt (tt, record { fits = r₃ .0 })) $
               yield-call fm (q .asked) askedParts (q .askedOf) known-ask (partsOf s) (in-books s gs) (λ _. ask-args ! 5
-                  s refl refl refl refl) (λ ga.
+                  s refl refl refl refl (no-more !)) (λ ga.
               land ! (spot ! (at-t 1) (stop !)) (sets ! 5 1 refl tt (q .asked .wt 𝓤 H A W (asksOf q s) ga)) $
               find2-call fm T.the-row u64 flag (q .asked ∷ []) (q .soundOf) known-rest x₁ x₂ (asksOf q s, tt) (ga, tt)
                   (λ _ _ _. and-then ! (get ! 3 1 refl refl refl) (and-then ! (get ! 3 2 refl refl refl) (and-then !

@@ -1,5 +1,5 @@
--- The crate's answers, as walks' Shown takes them, the callees that ask whether the lots are sound, and those by which
--- they land.
+-- The crate's answers, as walks' Shown takes them, the callees that ask whether the lots are sound, and those that also
+-- weigh what lands.
 -- Assumes nothing.
 use mathlib.Core.Path.{refl}
 use mathlib.Core.List.{[], _∷_}
@@ -12,19 +12,17 @@ use Rattle.rules.proofs.Kept.Laws as KeptL
 use Rattle.rules.proofs.ManagerCall as ManagerCallT
 use Rattle.rules.proofs.ManagerCall.Laws as ManagerCallL
 use Rattle.walks.proofs.Shown.{Shown, number}
-use Rattle.shapes.proofs.Core.{Ask}
-use Rattle.shapes.proofs.Land.{Lands}
+use Rattle.shapes.proofs.Core.{Ask, Weigh}
 use Rattle.partition_sound.specs.Asked.{askedOf, restAsked}
-use Rattle.partition_sound.proofs.Types.{asked}
+use Rattle.partition_sound.specs.Rest.{restFound}
+use Rattle.partition_sound.proofs.Types.{asked, verdict}
 use Rattle.partition_sound.proofs.ask.Symbol as ask-code
 use Rattle.partition_sound.proofs.rest_ok.Symbol as rest-code
-use Rattle.totals.specs.Landing.{landedAll}
-use Rattle.totals.proofs.Types.{landing}
-use Rattle.totals.proofs.landing.land.Symbol as land-code
-use Rattle.store.specs.Kept.{landingOf, landedKept}
-use Rattle.store.proofs.books.landing.Symbol as landing-code
-use Rattle.store.proofs.books.landing_without.Symbol as landing-without-code
-use Rattle.store.proofs.books.landed.Symbol as landed-code
+use Rattle.partition_sound.proofs.rest_of.Symbol as weigh-code
+use Rattle.store.specs.Kept.{askedCommit, askedRollBack, askedCall}
+use Rattle.store.proofs.books.ask_commit.Symbol as commit-code
+use Rattle.store.proofs.books.ask_roll_back.Symbol as roll-back-code
+use Rattle.store.proofs.books.ask_call.Symbol as call-code
 
 abbrev pub kept : Shown
 kept = record {
@@ -51,11 +49,15 @@ managerCall = record {
 abbrev pub asks : Ask
 asks = record { asked = asked; ask = ask-code.name; rest = rest-code.name; askedOf = askedOf; soundOf = restAsked }
 
--- what lands by a call, and by the roll back of a transaction
-abbrev pub landings : Lands kept []
-landings = record { landing = landing; make = landing-code.name; land = land-code.name; answer = landed-code.name;
-  landingOf = λ s w. landingOf s w 0; landedOf = landedAll; finOf = landedKept }
+-- what lands by a commit, by a roll back, by any call on the manager
+abbrev pub weighsCommit : Weigh (number ∷ [])
+weighsCommit = record { asked = asked; found = verdict; ask = commit-code.name; rest = weigh-code.name;
+  askedOf = askedCommit; foundOf = restFound }
 
-abbrev pub landingsWithout : Lands kept (number ∷ [])
-landingsWithout = record { landing = landing; make = landing-without-code.name; land = land-code.name;
-  answer = landed-code.name; landingOf = landingOf; landedOf = landedAll; finOf = landedKept }
+abbrev pub weighsRollBack : Weigh (number ∷ [])
+weighsRollBack = record { asked = asked; found = verdict; ask = roll-back-code.name; rest = weigh-code.name;
+  askedOf = askedRollBack; foundOf = restFound }
+
+abbrev pub weighsCall : Weigh (managerCall ∷ [])
+weighsCall = record { asked = asked; found = verdict; ask = call-code.name; rest = weigh-code.name;
+  askedOf = askedCall; foundOf = restFound }

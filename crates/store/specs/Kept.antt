@@ -1,11 +1,12 @@
 -- What a call by value keeps, and what a public call leaves, beside rules' step.
--- In order: storeOf, Left, Showed, the calls on the manager, a roll back's part, the totals. Laws:
+-- In order: storeOf, Left, Showed, the calls on the manager, a roll back's part, what lands. Laws:
 -- proofs/Laws/Kept.antt.
 -- Assumes nothing.
 use mathlib.Core.Path.{_≡_}
-use mathlib.Core.Bool.{Bool, _&&_, cond}
-use mathlib.Core.List.{List}
+use mathlib.Core.Bool.{Bool, true, false, _&&_, cond}
+use mathlib.Core.List.{List, [], map}
 use Prim.Native.Nat.{ℕ}
+use lib.ListN.{take}
 use Rattle.rules.specs.Store.{Store, createdState, withTotalsIn}
 use Rattle.rules.specs.Answers.{accepted}
 use Rattle.rules.specs.WellFormed.{managerOk}
@@ -13,15 +14,20 @@ use Rattle.rules.specs.Close.{rolledBackManager}
 use Rattle.rules.specs.Calls.{createAnswer, closeAnswer, managerAnswer, managerAfter}
 use Rattle.rules.specs.Step.{Outcome}
 use Rattle.rules.specs.declared.Answer.{Answer}
+use Rattle.rules.specs.declared.Clock.{Clock}
 use Rattle.rules.specs.declared.ManagerCall.{ManagerCall}
+use Rattle.rules.specs.declared.ManagerCall.the-variants.{Begin, Commit, BeginRo, EndRo, AdvanceLse}
+use Rattle.rules.specs.declared.Partitions.{Partitions}
+use Rattle.rules.specs.declared.RwTxns.{RwTxns}
 use Rattle.rules.specs.declared.Entry.{Entry}
-use Rattle.rules.specs.Manager.{managerIn}
+use Rattle.rules.specs.Manager.{Writer, view, managerIn}
 use Rattle.rules.specs.declared.State.{State}
 use Rattle.txn.specs.Kept.{keptOf}
-use Rattle.partition_sound.specs.Asked.{lengthsAre}
+use Rattle.txn_close.specs.Close.{lceAfter}
+use Rattle.partition_sound.specs.Asked.{lengthsAre, askedFor}
+use Rattle.partition_sound.specs.declared.Asked.{Asked}
+use Rattle.partition_sound.specs.declared.Verdict.{Verdict}
 use Rattle.rules.specs.declared.Kept.{Kept}
-use Rattle.totals.specs.Landing.{landedAll}
-use Rattle.totals.specs.declared.landing.Landing.{Landing}
 
 -- the store of the books and the lent areas
 abbrev pub storeOf : State → List ℕ → List Entry → Store
@@ -56,17 +62,34 @@ rollBackKept s rest i =
 
 -- ---- the totals brought up to date (02 (iii))
 
--- what lands between LCE before a call and after it, but for an epoch
-abbrev pub landingOf : State → Kept → ℕ → Landing
-landingOf before done gone = record {
-  partitions = before .partitions; totals = before .totals;
-  reach = record { over = before .clock .lce; high = done .state .clock .lce; gone = gone } }
+-- the records without their deps
+abbrev pub recordsOf : RwTxns → List Writer
+recordsOf ts = map (view []) (take (ts .count) (ts .at))
+
+-- LCE after a call on the manager: only a commit moves it
+abbrev pub reachedBy : Clock → RwTxns → ManagerCall → ℕ
+reachedBy c ts Begin = c .lce
+reachedBy c ts (Commit i) = lceAfter true i (c .lce) (recordsOf ts)
+reachedBy c ts (BeginRo e) = c .lce
+reachedBy c ts (EndRo t) = c .lce
+reachedBy c ts (AdvanceLse t) = c .lce
+
+-- what is asked of the lots: the epochs land that LCE then reaches
+abbrev pub askedCall : Clock → RwTxns → Partitions → List ℕ → ManagerCall → Asked
+askedCall c ts ps totals call = askedFor c ts ps totals (reachedBy c ts call) 0
+
+abbrev pub askedCommit : Clock → RwTxns → Partitions → List ℕ → ℕ → Asked
+askedCommit c ts ps totals i = askedCall c ts ps totals (Commit i)
+
+-- where transaction i is rolled back its own epoch does not
+abbrev pub askedRollBack : Clock → RwTxns → Partitions → List ℕ → ℕ → Asked
+askedRollBack c ts ps totals i = askedFor c ts ps totals (lceAfter false i (c .lce) (recordsOf ts)) i
 
 -- the totals of an accepted call; a refused one changes nothing
 abbrev pub landedKept : Kept → List ℕ → Kept
 landedKept done ts = record {
   state = cond (accepted (done .answer)) (withTotalsIn ts (done .state)) (done .state); answer = done .answer }
 
--- a call by value on the manager, and then the lots: gone is the epoch that is rolled back, or 0
-abbrev pub totalsKept : State → List Entry → List ℕ → ℕ → Kept → Kept
-totalsKept s es rows gone done = landedKept done (landedAll es rows (landingOf s done gone))
+-- a call by value on the manager, by what the lots' test found
+abbrev pub restKept : Kept → Verdict → Kept
+restKept done r = landedKept done (r .totals)

@@ -3,22 +3,26 @@ ghost use mathlib.Core.Path.{_≡_};
 ghost use Rattle.rules.specs.Store.{freshPartitions};
 ghost use Rattle.partition_sound.specs.Asked.{lengthsAre};
 ghost use Rattle.rules.specs.Answers.{accepted};
-ghost use Rattle.store.specs.Kept.{createKept, managerKept, landingOf, landedKept};
+ghost use Rattle.rules.specs.declared.ManagerCall.the-variants.{Commit};
+ghost use Rattle.store.specs.Kept.{createKept, managerKept, rollBackKept, landedKept, restKept};
+ghost use Rattle.store.specs.Kept.{askedCommit, askedRollBack, reachedBy, askedCall};
 use crate::new_books;
 use epoch::Epoch;
 use epoch::Start;
+use partition_sound::Asked;
+use partition_sound::Verdict;
 use rules::Answer;
+use rules::Clock;
 use rules::Kept;
 use rules::ManagerCall;
 use rules::Partition;
 use rules::Partitions;
 use rules::Refusal;
+use rules::RwTxns;
 use rules::State;
 use rules::limits::ENTRIES_LENT;
 use rules::limits::PARTITIONS_MAX;
 use rules::limits::ROWS_LENT;
-use totals::Reach;
-use totals::landing::Landing;
 
 // A call on the manager; rest says whether the rest of the store is sound.
 pub fn manage_core(state: State, rest: bool, call: ManagerCall) -> Kept
@@ -44,30 +48,6 @@ pub fn goes_on(done: Kept) -> bool
     true
 }
 
-// The partitions, their totals, and the epochs above LCE before a call, up to LCE after it: what lands (02 (iii)).
-pub fn landing(before: State, done: Kept) -> Landing
-    ensures { λ r. ⌜ r ≡ landingOf before done 0 ⌝ }
-{
-    landing_without(before, done, 0)
-}
-
-// The same but for the epoch of a transaction (01: load) that is rolled back.
-pub fn landing_without(before: State, done: Kept, gone: u64) -> Landing
-    ensures { λ r. ⌜ r ≡ landingOf before done gone ⌝ }
-{
-    let partitions = before.partitions;
-    let totals = before.totals;
-    Landing {
-        partitions: partitions,
-        totals: totals,
-        reach: Reach {
-            over: before.clock.lce,
-            high: done.state.clock.lce,
-            gone: gone,
-        },
-    }
-}
-
 // The totals of an accepted call; a refused one changes nothing.
 pub fn landed(done: Kept, totals: [u64; PARTITIONS_MAX]) -> Kept
     ensures { λ r. ⌜ r ≡ landedKept done totals ⌝ }
@@ -81,6 +61,85 @@ pub fn landed(done: Kept, totals: [u64; PARTITIONS_MAX]) -> Kept
         state: s,
         answer: answer,
     }
+}
+
+// What is asked of the lots where transaction i (01: load) commits: the epochs land that LCE then reaches (02 (iii)).
+pub fn ask_commit(
+    clock: Clock,
+    ts: RwTxns,
+    ps: Partitions,
+    totals: [u64; PARTITIONS_MAX],
+    i: u64,
+) -> Asked
+    ensures { λ r. ⌜ r ≡ askedCommit clock ts ps totals i ⌝ }
+{
+    let high = txn_close::lce_after(clock.lce, ts, i, true);
+    partition_sound::ask_landing(clock, ts, ps, totals, high, 0)
+}
+
+// Where it is rolled back: its own epoch does not land.
+pub fn ask_roll_back(
+    clock: Clock,
+    ts: RwTxns,
+    ps: Partitions,
+    totals: [u64; PARTITIONS_MAX],
+    i: u64,
+) -> Asked
+    ensures { λ r. ⌜ r ≡ askedRollBack clock ts ps totals i ⌝ }
+{
+    let high = txn_close::lce_after(clock.lce, ts, i, false);
+    partition_sound::ask_landing(clock, ts, ps, totals, high, i)
+}
+
+// LCE after a call on the manager, where it is accepted: by none but a commit does it move.
+fn reached(clock: Clock, ts: RwTxns, call: ManagerCall) -> u64
+    ensures { λ r. ⌜ r ≡ reachedBy clock ts call ⌝ }
+{
+    let ManagerCall::Commit { txn } = call else {
+        return clock.lce;
+    };
+    txn_close::lce_after(clock.lce, ts, txn, true)
+}
+
+// Of any call on the manager.
+pub fn ask_call(
+    clock: Clock,
+    ts: RwTxns,
+    ps: Partitions,
+    totals: [u64; PARTITIONS_MAX],
+    call: ManagerCall,
+) -> Asked
+    ensures { λ r. ⌜ r ≡ askedCall clock ts ps totals call ⌝ }
+{
+    let high = reached(clock, ts, call);
+    partition_sound::ask_landing(clock, ts, ps, totals, high, 0)
+}
+
+// A commit, by what the lots' test found.
+pub fn commit_core(state: State, r: Verdict, i: u64) -> Kept
+    ensures { λ k. ⌜ k ≡ restKept (managerKept state (r .ok) (Commit i)) r ⌝ }
+{
+    let done = txn_close::commit(state, r.ok, i);
+    let totals = r.totals;
+    landed(done, totals)
+}
+
+// The manager's part of a roll back.
+pub fn roll_back_core(state: State, r: Verdict, i: u64) -> Kept
+    ensures { λ k. ⌜ k ≡ restKept (rollBackKept state (r .ok) i) r ⌝ }
+{
+    let done = txn_close::roll_back(state, r.ok, i);
+    let totals = r.totals;
+    landed(done, totals)
+}
+
+// Any call on the manager.
+pub fn call_core(state: State, r: Verdict, call: ManagerCall) -> Kept
+    ensures { λ k. ⌜ k ≡ restKept (managerKept state (r .ok) call) r ⌝ }
+{
+    let done = manage_core(state, r.ok, call);
+    let totals = r.totals;
+    landed(done, totals)
 }
 
 // Partition p starts empty in area p, and area 8 is spare.

@@ -70,12 +70,15 @@ pub fn manage(state: State, entries: &[Entry], rows: &[u64], call: ManagerCall) 
     ensures { λ r. ⌜ Left (step (manage call) (storeOf state (now (rows .entry)) (now (entries .entry))))
         r (now (rows .entry)) (now (entries .entry)) ⌝ }
 {
-    let a = partition_sound::ask(state.clock, state.writers, state.partitions, state.totals);
-    let rest = partition_sound::rest_ok(entries, rows, a);
-    let done = books::manage_core(state, rest, call);
-    let l = books::landing(state, done);
-    let totals = totals::landing::land(entries, rows, l);
-    books::landed(done, totals)
+    let a = books::ask_call(
+        state.clock,
+        state.writers,
+        state.partitions,
+        state.totals,
+        call,
+    );
+    let r = partition_sound::rest_of(entries, rows, a);
+    books::call_core(state, r, call)
 }
 
 // A transaction (01: load) begins. Refusals, in this order: 5, 6, 7.
@@ -93,12 +96,15 @@ pub fn commit(state: State, entries: &[Entry], rows: &[u64], txn: u64) -> Kept
     ensures { λ r. ⌜ Left (step (commit txn) (storeOf state (now (rows .entry)) (now (entries .entry))))
         r (now (rows .entry)) (now (entries .entry)) ⌝ }
 {
-    let a = partition_sound::ask(state.clock, state.writers, state.partitions, state.totals);
-    let rest = partition_sound::rest_ok(entries, rows, a);
-    let done = txn_close::commit(state, rest, txn);
-    let l = books::landing(state, done);
-    let totals = totals::landing::land(entries, rows, l);
-    books::landed(done, totals)
+    let a = books::ask_commit(
+        state.clock,
+        state.writers,
+        state.partitions,
+        state.totals,
+        txn,
+    );
+    let r = partition_sound::rest_of(entries, rows, a);
+    books::commit_core(state, r, txn)
 }
 
 // A read-only transaction (01: page) begins at an epoch; 0 means LCE. Refusals, in this order: 5, 4, 6, 7.
@@ -175,12 +181,15 @@ pub fn roll_back(state: State, entries: &mut [Entry], rows: &mut [u64], a: u64) 
     ensures { λ r. ⌜ Left (step (rollback a) (storeOf state (now (rows .entry)) (now (entries .entry))))
         r (now (rows .exit)) (now (entries .exit)) ⌝ }
 {
-    let asked = partition_sound::ask(state.clock, state.writers, state.partitions, state.totals);
-    let rest = partition_sound::rest_ok(entries, rows, asked);
-    let done = txn_close::roll_back(state, rest, a);
-    let l = books::landing_without(state, done, a);
-    let totals = totals::landing::land(entries, rows, l);
-    let next = books::landed(done, totals);
+    let asked = books::ask_roll_back(
+        state.clock,
+        state.writers,
+        state.partitions,
+        state.totals,
+        a,
+    );
+    let r = partition_sound::rest_of(entries, rows, asked);
+    let next = books::roll_back_core(state, r, a);
     let go = books::goes_on(next);
     let partitions = undo::lots::roll_lots(entries, rows, state.partitions, a, go);
     done::roll_back_done(next, partitions)

@@ -1,5 +1,5 @@
--- The crate's types as a walk takes them: some epochs, the greatest clearing, what it leaves, where a weighing stands,
--- and what a landing is given.
+-- The crate's types as a walk takes them: some epochs, the greatest clearing, what it leaves of these and of what
+-- lands, and where a weighing stands.
 -- Assumes nothing.
 use mathlib.Core.Path.{refl}
 use denote.Struct.Laws as LL
@@ -8,12 +8,10 @@ use Rattle.totals.proofs.Reach as R
 use Rattle.totals.proofs.Reach.Laws as R′
 use Rattle.totals.proofs.Top as T
 use Rattle.totals.proofs.Top.Laws as T′
-use Rattle.totals.proofs.Cut as C
-use Rattle.totals.proofs.Cut.Laws as C′
+use Rattle.totals.proofs.Cuts as C
+use Rattle.totals.proofs.Cuts.Laws as C′
 use Rattle.totals.proofs.Tally as Y
 use Rattle.totals.proofs.Tally.Laws as Y′
-use Rattle.totals.proofs.landing.Landing as L
-use Rattle.totals.proofs.landing.Landing.Laws as L′
 
 abbrev pub reach : Shown
 reach = record {
@@ -27,8 +25,8 @@ top = record {
   wt = λ 𝓤 H A G z g. LL.lawful T.the-type T′.the-laws 𝓤 H A G .typed z _ g .0; last = λ x. tt;
   silent = λ x f. refl; makes = λ 𝓤 H A _. LL.makes T.the-type T′.the-plain 𝓤 H A }
 
-abbrev pub cut : Shown
-cut = record {
+abbrev pub cuts : Shown
+cuts = record {
   row = C.the-row; mir = C′.mir; val = LL.val C.the-type C′.the-laws; tells = LL.tells C.the-type C′.the-laws;
   wt = λ 𝓤 H A G z g. LL.lawful C.the-type C′.the-laws 𝓤 H A G .typed z _ g .0; last = λ x. tt;
   silent = λ x f. refl; makes = λ 𝓤 H A _. LL.makes C.the-type C′.the-plain 𝓤 H A }
@@ -38,9 +36,3 @@ tally = record {
   row = Y.the-row; mir = Y′.mir; val = LL.val Y.the-type Y′.the-laws; tells = LL.tells Y.the-type Y′.the-laws;
   wt = λ 𝓤 H A G z g. LL.lawful Y.the-type Y′.the-laws 𝓤 H A G .typed z _ g .0; last = λ x. tt;
   silent = λ x f. refl; makes = λ 𝓤 H A _. LL.makes Y.the-type Y′.the-plain 𝓤 H A }
-
-abbrev pub landing : Shown
-landing = record {
-  row = L.the-row; mir = L′.mir; val = LL.val L.the-type L′.the-laws; tells = LL.tells L.the-type L′.the-laws;
-  wt = λ 𝓤 H A G z g. LL.lawful L.the-type L′.the-laws 𝓤 H A G .typed z _ g .0; last = λ x. tt;
-  silent = λ x f. refl; makes = λ 𝓤 H A _. LL.makes L.the-type L′.the-plain 𝓤 H A }

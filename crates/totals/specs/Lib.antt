@@ -1,4 +1,3 @@
 pub mod Places
 pub mod Reach
 pub mod Weighed
-pub mod Landing

@@ -1,13 +1,17 @@
 -- Some epochs, the greatest clearing among them, and the rows that it leaves. 01 "Who sees a row".
--- In order: inReach, the greatest clearing by one pass, cutOf, shows. Laws: proofs/Laws/Weighs.antt.
+-- In order: inReach, the greatest clearing by one pass, cutOf, cutsOf, shows. Laws: proofs/Laws/Weighs.antt.
 -- Assumes nothing.
 use mathlib.Core.Bool.{Bool, not, _&&_, cond}
 use Prim.Native.Nat.{ℕ}
 use lib.Dec.{ltb, leb, eqb}
+use Rattle.rules.specs.Limits.{rowsMax}
 use Rattle.rules.specs.declared.Entry.{Entry}
+use Rattle.rules.specs.declared.Partition.{Partition}
+use Rattle.area.specs.Area.{baseOf}
 use Rattle.totals.specs.declared.Reach.{Reach}
 use Rattle.totals.specs.declared.Top.{Top}
 use Rattle.totals.specs.declared.Cut.{Cut}
+use Rattle.totals.specs.declared.Cuts.{Cuts}
 
 unfoldable pub inReach : Reach → ℕ → Bool
 inReach r j = ltb (r .over) j && leb j (r .high) && not (eqb j (r .gone))
@@ -29,6 +33,11 @@ abbrev pub cutOf : Reach → Top → ℕ → Cut
 cutOf r t base = record {
   low = cond (eqb (t .epoch) 0) (r .over) (t .epoch); edge = cond (eqb (t .epoch) 0) farthest (t .edge);
   high = r .high; gone = r .gone; base = base }
+
+-- of partition q: t is the greatest clearing among the epochs r, newest the one among those that land
+abbrev pub cutsOf : Partition → Reach → Top → Reach → Top → Cuts
+cutsOf q r t lands newest =
+    let base = baseOf rowsMax (q .area) in record { shown = cutOf r t base; lands = cutOf lands newest base }
 
 -- the rows of epoch j that begin at row n
 unfoldable pub shows : Cut → ℕ → ℕ → Bool

@@ -1,14 +1,13 @@
-// What the rows of a partition (01: lot) weigh, of some epochs (02 (iii)): the greatest clearing among these epochs is
-// found first, then the rows that are shown by it are weighed, each once.
+// What the rows of a partition (01: lot) weigh, of some epochs, and beside them of some later ones, which land (02
+// (iii)): the greatest clearing among either is found first, then the rows that are shown by it are weighed, each once.
 use rules::Partition;
 use rules::limits::AREAS_MAX;
 use rules::limits::ENTRIES_MAX;
 ghost use mathlib.Core.Path.{_≡_};
-ghost use Rattle.totals.specs.Reach.{cutOf};
+ghost use Rattle.totals.specs.Reach.{cutOf, cutsOf};
 ghost use Rattle.totals.specs.Places.{fromOf, toOf};
 
 pub mod clearing;
-pub mod landing;
 pub mod shown;
 pub mod weigh;
 
@@ -36,12 +35,19 @@ pub struct Cut {
     pub base: usize,
 }
 
+// Of the epochs that are asked for, and of the later ones that land.
+pub struct Cuts {
+    pub shown: Cut,
+    pub lands: Cut,
+}
+
 // Where the weighing stands: the rows from `from` up to `end` are shown and not yet weighed, `sum` is what was weighed
-// before them.
+// before them; `more` is what the rows that land weigh.
 pub struct Tally {
     pub from: usize,
     pub end: usize,
     pub sum: u64,
+    pub more: u64,
 }
 
 // With no clearing all rows above `over` are shown: none stands past the edge.
@@ -64,6 +70,16 @@ pub fn cut_of(r: Reach, t: Top, base: usize) -> Cut
         gone: r.gone,
         base: base,
     }
+}
+
+// The rows of partition q: by the clearing t of the epochs r, and by the newest of those that land.
+pub fn cuts_of(q: Partition, r: Reach, t: Top, lands: Reach, newest: Top) -> Cuts
+    ensures { λ c. ⌜ c ≡ cutsOf q r t lands newest ⌝ }
+{
+    let base = area::row_base(q.area);
+    let c = cut_of(r, t, base);
+    let d = cut_of(lands, newest, base);
+    Cuts { shown: c, lands: d }
 }
 
 // Where the entries of a partition begin and end, nowhere where its numbers are out of range.

@@ -1,6 +1,7 @@
-// The rows that are shown, weighed: one pass over the lent entries of a partition (01: lot), and over its rows. Shown
-// rows that stand together are weighed together.
+// The rows that are shown, weighed, and beside them those that land: one pass over the lent entries of a partition (01:
+// lot), and over its rows. Shown rows that stand together are weighed together.
 use crate::Cut;
+use crate::Cuts;
 use crate::Tally;
 use crate::weigh::add;
 use crate::weigh::weigh;
@@ -10,7 +11,7 @@ ghost use mathlib.Core.Path.{_≡_};
 ghost use Prim.Native.Nat.{_-_};
 ghost use Rattle.lent.specs.Shapes.{turned};
 ghost use Rattle.totals.specs.Reach.{shows};
-ghost use Rattle.totals.specs.Weighed.{noTally, closedOf, tallyTurn};
+ghost use Rattle.totals.specs.Weighed.{noTally, closedOf, landedOf, tallyTurn};
 
 pub fn no_tally() -> Tally
     ensures { λ r. ⌜ r ≡ noTally ⌝ }
@@ -19,6 +20,7 @@ pub fn no_tally() -> Tally
         from: 0,
         end: 0,
         sum: 0,
+        more: 0,
     }
 }
 
@@ -38,39 +40,60 @@ fn is_shown(c: Cut, n: usize, j: u64) -> bool
     c.low <= j
 }
 
-// What was weighed before, and the rows that are not yet.
-pub fn closed(rows: &[u64], c: Cut, t: Tally) -> u64
-    ensures { λ r. ⌜ r ≡ closedOf (now (rows .entry)) c t ⌝ }
+// What was weighed before, and the rows that are not yet, of those that stand from row `base` on.
+pub fn closed(rows: &[u64], base: usize, t: Tally) -> u64
+    ensures { λ r. ⌜ r ≡ closedOf (now (rows .entry)) base t ⌝ }
 {
     if t.end <= t.from {
         return t.sum;
     }
-    let w = weigh(rows, c.base, t.from, t.end);
+    let w = weigh(rows, base, t.from, t.end);
     add(t.sum, w)
 }
 
+// What lands up to row `end`, where the rows of epoch j begin at row t.end.
+fn landed(rows: &[u64], c: Cut, t: Tally, end: usize, j: u64) -> u64
+    ensures { λ r. ⌜ r ≡ landedOf (now (rows .entry)) c t end j ⌝ }
+{
+    if is_shown(c, t.end, j) {
+        let w = weigh(rows, c.base, t.end, end);
+        return add(t.more, w);
+    }
+    t.more
+}
+
 // One entry more.
-fn step(rows: &[u64], c: Cut, t: Tally, e: Entry) -> Tally
+fn step(rows: &[u64], c: Cuts, t: Tally, e: Entry) -> Tally
     ensures { λ r. ⌜ r ≡ tallyTurn (now (rows .entry)) c t e ⌝ }
 {
     let end = e.end;
-    if is_shown(c, t.end, e.epoch) {
+    if is_shown(c.shown, t.end, e.epoch) {
         return Tally {
             from: t.from,
             end: end,
             sum: t.sum,
+            more: t.more,
         };
     }
-    let sum = closed(rows, c, t);
+    let sum = closed(rows, c.shown.base, t);
+    let more = landed(rows, c.lands, t, end, e.epoch);
     Tally {
         from: end,
         end: end,
         sum: sum,
+        more: more,
     }
 }
 
 // The entries from one index up to another, each a step.
-pub fn tally(entries: &[Entry], rows: &[u64], c: Cut, start: Tally, from: usize, to: usize) -> Tally
+pub fn tally(
+    entries: &[Entry],
+    rows: &[u64],
+    c: Cuts,
+    start: Tally,
+    from: usize,
+    to: usize,
+) -> Tally
     ensures { λ r. ⌜ r ≡ turned (tallyTurn (now (rows .entry)) c) start (now (entries .entry)) from (to - from) ⌝ }
 {
     let mut last = start;

@@ -1,5 +1,6 @@
 -- The pass over all partitions, as the code makes it turn by turn, finds *sound* but for the manager.
--- In order: the pass; a partition that is well; what it weighs; one partition; those below p; all.
+-- In order: a partition that is well; the greatest clearing; what a page at LCE weighs; one partition, what it weighs
+-- and what lands; those below p; all.
 -- Definitions: specs/Rest.antt, specs/Asked.antt.
 -- Assumes nothing.
 use mathlib.Core.Path.{_≡_, refl, sym, ap, subst, _∙_}
@@ -9,9 +10,9 @@ use Prim.Native.Nat.{ℕ, zero, suc, _*_, _-_, _≤_, _<_}
 use native.Mathlib.Omega.{arith}
 use lib.ListN.{length, take, drop, getD}
 use lib.Dec.{ltb, leb, eqb}
-use borrow.Author.Tests.{leb-true, ltb-true, ltb-false, eqb-true, le-leb, lt-ltb, ne-eqb}
+use borrow.Author.Tests.{leb-true, ltb-true, ltb-false, eqb-true, le-leb, lt-leb, lt-ltb, ne-eqb}
 use Rattle.lists.specs.Lists.{allOf, anyOf, part}
-use Rattle.lists.proofs.Laws.All.{All, All-imp, All-allOf, allOf-All, All-getD, getD-All, All-anyOf}
+use Rattle.lists.proofs.Laws.All.{All, All-imp, All-every, All-allOf, allOf-All, All-getD, getD-All, All-anyOf}
 use Rattle.lists.proofs.Laws.Bools.{split, split-eq, both-ways, and-left, and-right, and-both, and-true, and-false}
 use Rattle.lists.proofs.Laws.Tests.{and-comm}
 use Rattle.rules.specs.Limits.{rowsMax, entriesMax, areasMax, partitionsMax}
@@ -32,18 +33,18 @@ use Rattle.laws.proofs.Laws.WellFormed.{areas-facts}
 use Rattle.area.specs.Load.{partitionIn}
 use Rattle.lent.specs.Shapes.{turned}
 use Rattle.totals.specs.Places.{fromOf, toOf}
-use Rattle.totals.specs.Reach.{inReach, noTop, topTurn}
+use Rattle.totals.specs.Reach.{inReach, noTop, topTurn, cutsOf}
 use Rattle.totals.specs.Weighed.{noTally, closedOf, tallyTurn}
-use Rattle.totals.specs.Landing.{landCut}
 use Rattle.totals.specs.declared.Reach.{Reach}
 use Rattle.totals.specs.declared.Top.{Top}
-use Rattle.totals.specs.declared.Cut.{Cut}
+use Rattle.totals.specs.declared.Cuts.{Cuts}
 use Rattle.totals.specs.declared.Tally.{Tally}
 use Rattle.totals.proofs.Laws.Lot.{Placed, Lies, lot-turned, lot-weighs}
 use Rattle.partition_sound.specs.Sound.{entryOkBy, epochOkBy, partitionOkBy, beforeFirst, chained}
 use Rattle.partition_sound.specs.Asked.{lengthsAre, spansOf, totalsAre, restAsked}
 use Rattle.partition_sound.specs.Pass.{stepOf}
-use Rattle.partition_sound.specs.Rest.{heldOf, startOf, begins, reachOf, wellBy, weighedTo, clearedTo, judgedOf}
+use Rattle.partition_sound.specs.Rest.{heldOf, startOf, begins, reachOf, wellBy, weighedTo, clearedTo}
+use Rattle.partition_sound.specs.Rest.{landingTo, judgedOf, lastAt, endAt, stopAt, newestAt, cutsAt, tallyAt}
 use Rattle.partition_sound.specs.declared.Asked.{Asked}
 use Rattle.partition_sound.specs.declared.Last.{Last}
 use Rattle.partition_sound.proofs.Laws.Pass.{pass-chains, pass-cleared}
@@ -70,10 +71,18 @@ parts-of c js es q h =
           g)))) own
         (All-allOf (entryOkBy c js) own (and-right (x && y && e) o xyeo)) }
 
--- no delete, no greatest one
-top-still : (r : Reach) (t : Top) (es : List Entry) → All (λ e. eqb (e .mark) 1 ≡ false) es → foldl (topTurn r) t es ≡ t
+-- no clearing in reach, no greatest one
+top-still : (r : Reach) (t : Top) (es : List Entry) → All (λ e. eqb (e .mark) 1 && inReach r (e .epoch) ≡ false) es
+    → foldl (topTurn r) t es ≡ t
 top-still r t [] h = refl
 top-still r t (e ∷ es) h = rw (h .0) (top-still r t es (h .1))
+
+-- where nothing lands no epoch is in reach
+reach-none : (r : Reach) → r .high ≡ r .over → (j : ℕ) → inReach r j ≡ false
+unfolding inReach
+reach-none r e j = split (ltb (r .over) j)
+  (λ t. let g = ltb-true (r .over) j t in rw (t, lt-leb j (r .high) (omega arith)))
+  (λ f. rw f)
 
 -- the spans' epochs are the entries'
 epochs-spans : (n : ℕ) (es : List Entry) (ws : List ℕ) → All (λ e. 1 ≤ e .epoch) es
@@ -100,35 +109,23 @@ page-weighs lce ss h = let r : ℕ → Bool = inReach (record { over = 0; high =
 -- ---- the pass
 
 module _ (es : List Entry) (rows : List ℕ) (a : Asked) where
-  -- what the pass over partition q tells
-  abbrev pub lastAt : Partition → Last
-  lastAt q = turned (stepOf (a .epochs) (heldOf a)) startOf es (fromOf q) (toOf q - fromOf q)
+  abbrev place : ℕ → Partition
+  place p = partitionIn (a .partitions) p
 
-  -- up to where it is weighed, and its greatest clearing sought
-  abbrev pub endAt : Partition → ℕ
-  endAt q = weighedTo q (lastAt q) (fromOf q) (toOf q)
+  abbrev last : Partition → Last
+  last q = lastAt es rows a q
 
-  abbrev pub stopAt : Partition → ℕ
-  stopAt q = clearedTo (lastAt q) (fromOf q) (endAt q)
+  abbrev cuts : Partition → Cuts
+  cuts q = cutsAt es rows a q
 
-  -- its greatest clearing, what this leaves, and where its weighing stands
-  abbrev pub topAt : Partition → Top
-  topAt q = turned (topTurn (reachOf a)) noTop es (fromOf q) (stopAt q - fromOf q)
-
-  abbrev pub cutAt : Partition → Cut
-  cutAt q = landCut (reachOf a) q (topAt q)
-
-  abbrev pub tallyAt : Partition → Tally
-  tallyAt q = turned (tallyTurn rows (cutAt q)) noTally es (fromOf q) (endAt q - fromOf q)
-
-  abbrev pub placeAt : ℕ → Partition
-  placeAt p = partitionIn (a .partitions) p
+  abbrev tally : Partition → Tally
+  tally q = tallyAt es rows a q
 
   -- after p partitions
   unfoldable pub okUpTo : Bool → ℕ → Bool
   okUpTo ok zero = ok
-  okUpTo ok (suc p) = judgedOf rows (okUpTo ok p) (a .totals) p (placeAt p) (lastAt (placeAt p)) (cutAt (placeAt p))
-      (tallyAt (placeAt p))
+  okUpTo ok (suc p) = let q = place p in
+      judgedOf rows (okUpTo ok p) (a .totals) p q (last q) (cuts q) (tally q)
 
   abbrev js : List ℕ
   js = take (a .count) (a .epochs)
@@ -153,23 +150,23 @@ module _ (es : List Entry) (rows : List ℕ) (a : Asked) where
     ws = part (rowsMax * q .area) (q .rows) rows
 
     abbrev well : Bool
-    well = wellBy q (lastAt q)
+    well = wellBy q (last q)
 
     placed : counts ≡ true → Placed es q
     placed t = record { entries-length = len; inside = inside;
       few = leb-true (q .entries) entriesMax (and-right (leb (q .rows) rowsMax) (leb (q .entries) entriesMax) t) }
 
-    last-is : counts ≡ true → lastAt q ≡ foldl (stepOf (a .epochs) (heldOf a)) startOf own
+    last-is : counts ≡ true → last q ≡ foldl (stepOf (a .epochs) (heldOf a)) startOf own
     last-is t = lot-turned es q (placed t) (stepOf (a .epochs) (heldOf a)) startOf
 
     passed : counts ≡ true
-        → lastAt q .ok && eqb (lastAt q .entry .end) (q .rows) ≡ chained (a .clock) js (q .rows) beforeFirst own
+        → last q .ok && eqb (last q .entry .end) (q .rows) ≡ chained (a .clock) js (q .rows) beforeFirst own
     passed t = ap (λ (s : Last). s .ok && eqb (s .entry .end) (q .rows)) (last-is t)
         ∙ pass-chains (a .clock) (a .count) (a .epochs) (q .rows) startOf own
 
     well-is : well ≡ okBy q
     well-is = split counts
-        (λ t. rw t (and-comm (eqb (lastAt q .entry .end) (q .rows)) (lastAt q .ok)
+        (λ t. rw t (and-comm (eqb (last q .entry .end) (q .rows)) (last q .ok)
           ∙ (passed t ∙ sym (partitionOkBy-pass (a .clock) js es q t))))
         (λ n. rw n (sym (partitionOkBy-many (a .clock) js es q n)))
 
@@ -184,34 +181,47 @@ module _ (es : List Entry) (rows : List ℕ) (a : Asked) where
       lies : Lies es rows q
       lies = record { placed = placed counted; rows-length = lenr; fits = parts .fits; ends = parts .ends }
 
-      end-is : endAt q ≡ toOf q
+      end-is : endAt es rows a q ≡ toOf q
       unfolding weighedTo
       end-is = rw w
 
-      all-well : lastAt q .ok ≡ true
-      all-well = and-right (counts && eqb (lastAt q .entry .end) (q .rows)) (lastAt q .ok) w
+      all-well : last q .ok ≡ true
+      all-well = and-right (counts && eqb (last q .entry .end) (q .rows)) (last q .ok) w
 
-      cleared-is : lastAt q .cleared ≡ anyOf (λ e. eqb (e .mark) 1) own
+      cleared-is : last q .cleared ≡ anyOf (λ e. eqb (e .mark) 1) own
       cleared-is = ap (λ (s : Last). s .cleared) (last-is counted)
           ∙ pass-cleared (a .clock) (a .count) (a .epochs) own (sym (ap (λ (s : Last). s .ok) (last-is counted)) ∙
               all-well)
 
-      top-is : topAt q ≡ foldl (topTurn (reachOf a)) noTop own
+      -- the greatest clearing among any epochs
+      top-of : (r : Reach) → turned (topTurn r) noTop es (fromOf q) (stopAt es rows a q - fromOf q)
+          ≡ foldl (topTurn r) noTop own
       unfolding clearedTo turned
-      top-is = split (lastAt q .cleared)
-        (λ t. rw (t, end-is) (lot-turned es q (placed counted) (topTurn (reachOf a)) noTop))
+      top-of r = split (last q .cleared)
+        (λ t. rw (t, end-is) (lot-turned es q (placed counted) (topTurn r) noTop))
         (λ f. let z : fromOf q - fromOf q ≡ 0 = omega arith in
-          rw (f, z) (sym (top-still (reachOf a) noTop own (All-anyOf _ own (sym cleared-is ∙ f)))))
+          rw (f, z) (sym (top-still r noTop own (All-imp _ _ (λ e h. rw h) own
+            (All-anyOf _ own (sym cleared-is ∙ f))))))
 
-      weighed-is : closedOf rows (cutAt q) (tallyAt q) ≡ total (a .lce) (spansOf es rows q)
+      newest-is : newestAt es rows a q ≡ foldl (topTurn (a .lands)) noTop own
+      unfolding landingTo turned
+      newest-is = split (eqb (a .lands .high) (a .lands .over))
+        (λ t. let z : fromOf q - fromOf q ≡ 0 = omega arith in
+          rw (t, z) (sym (top-still (a .lands) noTop own (All-every _ (λ e. rw (reach-none (a .lands)
+            (eqb-true (a .lands .high) (a .lands .over) t) (e .epoch)) (and-false (eqb (e .mark) 1))) own))))
+        (λ f. rw f (top-of (a .lands)))
+
+      tally-is : tally q ≡ foldl (tallyTurn rows (cutsOf q (reachOf a) (foldl (topTurn (reachOf a)) noTop own)
+          (a .lands) (foldl (topTurn (a .lands)) noTop own))) noTally own
+      tally-is = rw (top-of (reachOf a), newest-is, end-is) (lot-turned es q (placed counted) _ noTally)
+
+      weighed-is : closedOf rows (cuts q .shown .base) (tally q) ≡ total (a .lce) (spansOf es rows q)
       unfolding spansOf
-      weighed-is = rw (top-is, end-is, lot-turned es q (placed counted) (tallyTurn rows (landCut (reachOf a) q (foldl
-          (topTurn (reachOf a)) noTop own))) noTally)
-          (lot-weighs es rows q lies (reachOf a) ∙ page-weighs (a .lce) (spans 0 own ws) (epochs-spans 0 own ws
-              (parts .low)))
+      weighed-is = rw tally-is (lot-weighs es rows q lies (reachOf a) (a .lands) (foldl (topTurn (a .lands)) noTop own)
+          ∙ page-weighs (a .lce) (spans 0 own ws) (epochs-spans 0 own ws (parts .low)))
 
     judged-is : (ok : Bool) (p : ℕ) → p < partitionsMax
-        → judgedOf rows ok (a .totals) p q (lastAt q) (cutAt q) (tallyAt q) ≡ ok && (okBy q && weighsBy p q)
+        → judgedOf rows ok (a .totals) p q (last q) (cuts q) (tally q) ≡ ok && (okBy q && weighsBy p q)
     unfolding judgedOf
     judged-is ok p h = split well
         (λ w. rw (← well-is, w, lt-ltb p partitionsMax h, weighed-is w) (in-turn ok (weighsBy p q)))
@@ -224,14 +234,14 @@ module _ (es : List Entry) (rows : List ℕ) (a : Asked) where
   -- ---- the partitions below p
 
   abbrev good : ℕ → Bool
-  good p = okBy (placeAt p) && weighsBy p (placeAt p)
+  good p = okBy (place p) && weighsBy p (place p)
 
   module _ (len : length es ≡ entriesMax * areasMax) (lenr : length rows ≡ rowsMax * areasMax)
       (eight : length (a .partitions .at) ≡ partitionsMax)
-      (inside : (p : ℕ) → p < partitionsMax → placeAt p .area < areasMax) where
+      (inside : (p : ℕ) → p < partitionsMax → place p .area < areasMax) where
     upto-suc : (p : ℕ) → p < partitionsMax → okUpTo true (suc p) ≡ okUpTo true p && good p
     unfolding okUpTo
-    upto-suc p h = judged-is len lenr (placeAt p) (inside p h) (okUpTo true p) p h
+    upto-suc p h = judged-is len lenr (place p) (inside p h) (okUpTo true p) p h
 
     upto-each : (k : ℕ) → k ≤ partitionsMax → okUpTo true k ≡ true → (p : ℕ) → p < k → good p ≡ true
     upto-each zero h t p l = absurd (omega arith)
@@ -253,16 +263,16 @@ module _ (es : List Entry) (rows : List ℕ) (a : Asked) where
     all-good = both-ways _ _
         (λ t. let e = upto-each partitionsMax (omega arith) t in and-both (allOf okBy (a .partitions .at)) _
           (allOf-All okBy (a .partitions .at) (getD-All (λ q. okBy q ≡ true) noPartition (a .partitions .at) (λ p l.
-            and-left (okBy (placeAt p)) (weighsBy p (placeAt p)) (e p (omega (arith, eight, l))))))
-          (allOf-All (λ p. weighsBy p (placeAt p)) partitionNumbers (getD-All (λ p. weighsBy p (placeAt p) ≡ true) 0
-            partitionNumbers (λ p l. subst (λ q. weighsBy q (placeAt q) ≡ true) (sym (own-area p l))
-              (and-right (okBy (placeAt p)) (weighsBy p (placeAt p)) (e p l))))))
-        (λ t. each-upto (λ p l. and-both (okBy (placeAt p)) (weighsBy p (placeAt p))
+            and-left (okBy (place p)) (weighsBy p (place p)) (e p (omega (arith, eight, l))))))
+          (allOf-All (λ p. weighsBy p (place p)) partitionNumbers (getD-All (λ p. weighsBy p (place p) ≡ true) 0
+            partitionNumbers (λ p l. subst (λ q. weighsBy q (place q) ≡ true) (sym (own-area p l))
+              (and-right (okBy (place p)) (weighsBy p (place p)) (e p l))))))
+        (λ t. each-upto (λ p l. and-both (okBy (place p)) (weighsBy p (place p))
           (All-getD (λ q. okBy q ≡ true) noPartition (a .partitions .at)
             (All-allOf okBy (a .partitions .at) (and-left (allOf okBy (a .partitions .at)) _ t)) p (omega (arith,
                 eight, l)))
-          (subst (λ q. weighsBy q (placeAt q) ≡ true) (own-area p l)
-            (All-getD (λ q. weighsBy q (placeAt q) ≡ true) 0 partitionNumbers (All-allOf (λ q. weighsBy q (placeAt q))
+          (subst (λ q. weighsBy q (place q) ≡ true) (own-area p l)
+            (All-getD (λ q. weighsBy q (place q) ≡ true) 0 partitionNumbers (All-allOf (λ q. weighsBy q (place q))
               partitionNumbers (and-right (allOf okBy (a .partitions .at)) _ t)) p l))) partitionsMax (omega arith))
 
   never : (p : ℕ) → okUpTo false p ≡ false
@@ -281,3 +291,23 @@ module _ (es : List Entry) (rows : List ℕ) (a : Asked) where
             l) in
         rw t (all-good le lr eight (areas-facts (a .partitions) eight r .inside)))
       (λ n. rw n (never partitionsMax))
+
+  -- each partition then lies well, and the passes over it find its newest clearing, and what it weighs
+  pub rest-each : length (a .partitions .at) ≡ partitionsMax → restAsked es rows a ≡ true → (p : ℕ) → p < partitionsMax
+      → let q = place p in let own = part (entriesMax * q .area) (q .entries) es in
+        let newest = foldl (topTurn (a .lands)) noTop own in
+        Lies es rows q × (newestAt es rows a q ≡ newest)
+        × (tallyAt es rows a q ≡ foldl (tallyTurn rows (cutsOf q (reachOf a) (foldl (topTurn (reachOf a)) noTop own)
+            (a .lands) newest)) noTally own)
+  unfolding restAsked lengthsAre
+  rest-each eight t p k =
+      let ps = a .partitions in let x = lengthsAre (length es) (length rows) in let z = allOf okBy (ps .at) in
+      let xyz = and-left (x && areasOk ps && z) (totalsAre (a .totals) (a .lce) es rows ps) t in
+      let xy = and-left (x && areasOk ps) z xyz in let l = and-left x (areasOk ps) xy in
+      let lr = eqb-true (length rows) (rowsMax * areasMax) (and-left (eqb (length rows) (rowsMax * areasMax)) _ l) in
+      let le = eqb-true (length es) (entriesMax * areasMax) (and-right (eqb (length rows) (rowsMax * areasMax)) _ l) in
+      let i = areas-facts ps eight (and-right x (areasOk ps) xy) .inside p k in
+      let o = All-getD (λ q. okBy q ≡ true) noPartition (ps .at) (All-allOf okBy (ps .at) (and-right (x && areasOk ps)
+            z xyz)) p (omega (arith, eight, k)) in
+      let w = well-is le lr (place p) i ∙ o in
+      (lies le lr (place p) i w, newest-is le lr (place p) i w, tally-is le lr (place p) i w)

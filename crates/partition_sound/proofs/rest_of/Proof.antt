@@ -1,6 +1,8 @@
--- `rest_ok` meets its contract: a walk of its MIR, by hand, with a loop. The records' epochs are lent for the loop. A
--- turn finds where a partition lies, goes over its entries, weighs it, and judges it.
+-- `rest_of` meets its contract: a walk of its MIR, by hand, with a loop. The records' epochs are lent for the loop. A
+-- turn finds where a partition lies, goes over its entries, weighs it and what lands, judges it, and brings its total
+-- up to date.
 -- Assumes nothing.
+mod Callees
 use mathlib.Core.Path.{_≡_, refl, ap, subst}
 use mathlib.Core.Bool.{Bool}
 use Prim.Native.Nat.{ℕ, zero, suc, _<_, _+_, _-_, _^_}
@@ -22,7 +24,7 @@ use ghost.Atoms.{Atoms}
 use contract.Lifetimes.{Lfts, Shares}
 use contract.Monad.{Fun}
 use contract.Running.{givenOf, tables, tablesOf}
-use types.Kit.{Given, Item, ‵, _⊛_, ⋆, Sq, anyQ, atRet, runs, prop, _$_, _∵_, !, qed, by, move, keep, split, join}
+use types.Kit.{Given, Item, ‵, _⊛_, ⋆, Sq, anyQ, atRet, runs, prop, _$_, _∵_, !, qed, by, move, keep, drop, split, join}
 use types.Kit.{rewrite, fsplit, use0, suffices, frame, done}
 use types.Run.{stop, fld, from, load, lit, of-opd, bin, addr, and-then, no-more, assigns, assigns-last, land}
 use types.Run.{first, blocks, stays, leaves-loop, exec, loops, again, Below, returns, init, forget, enter, alloc0}
@@ -31,20 +33,18 @@ use types.Part.{sub, agg, look-in}
 use sound.WpLaws.{FmC, fmOf, WpFn-mono}
 use borrow.Author.Tests.{lt-ltb}
 use denote.RattleType.{owns}
-use denote.Laws.{Is}
+use denote.Laws.{Is, shows}
 use denote.Builtin.{u64}
 use denote.Slice.{Room, slice-vals, shr-slice-tells}
 use denote.Signature.{Slot, plain, shrSliceOf, typesAt}
-use denote.Steps.{owned, nothing}
-use denote.Triple.Statement.{Contract, Triple}
+use denote.Steps.{owned, peeks, nothing}
 use denote.Triple.End.{Kepts}
 use denote.Triple.Entry.{Args, Vals, onEntry}
 use denote.Triple.Spec.{Meets, tripleOf}
-use denote.Triple.Table.{entered, cited}
+use denote.Triple.Table.{entered}
 use denote.Triple.Walked.{says, walkOf, Walks, ends-at, walked, walk-meets, hasOf}
 use denote.Exit.{yes}
 use Rattle.rules.specs.Limits.{partitionsMax}
-use Rattle.rules.specs.declared.Entry.{Entry}
 use Rattle.rules.specs.declared.Partition.{Partition}
 use Rattle.rules.specs.declared.Partitions.{Partitions}
 use Rattle.rules.proofs.Entry as T
@@ -54,171 +54,41 @@ use Rattle.walks.proofs.Frame.{as-value}
 use Rattle.walks.proofs.Lend.{Lent, lent-by, token, shr, refOf, valOf, held, local-lent}
 use Rattle.walks.proofs.Shown.{Shown, number, flag, value-in, value-out}
 use Rattle.walks.proofs.Values.{Quiet, drops, lastly, no-fit, had, drops-go, values, keeps, quiet, spells, tells}
-use Rattle.walks.proofs.Calls.{Yields, yield-call, Finds, find-call}
-use Rattle.shapes.proofs.Two.{Finds2, find2-call, lfts, LocalOut, shares-local, back-shared-local, as-long}
-use Rattle.lent.specs.Shapes.{turned}
+use Rattle.walks.proofs.Calls.{yield-call, find-call}
+use Rattle.shapes.proofs.Two.{find2-call, lfts, LocalOut, shares-local, back-shared-local, as-long}
 use Rattle.partition.proofs.Laws.Places.{partitions-8}
 use Rattle.area.specs.Load.{partitionIn}
 use Rattle.area.proofs.Types.{place, places}
 use Rattle.totals.specs.Places.{fromOf, toOf}
-use Rattle.totals.specs.Reach.{noTop, topTurn}
-use Rattle.totals.specs.Weighed.{noTally, tallyTurn}
-use Rattle.totals.specs.Landing.{landCut}
+use Rattle.totals.specs.Reach.{noTop, cutsOf}
+use Rattle.totals.specs.Weighed.{noTally}
 use Rattle.totals.specs.declared.Reach.{Reach}
 use Rattle.totals.specs.declared.Top.{Top}
-use Rattle.totals.specs.declared.Cut.{Cut}
+use Rattle.totals.specs.declared.Cuts.{Cuts}
 use Rattle.totals.specs.declared.Tally.{Tally}
 use Rattle.shapes.proofs.Core.{totals}
-use Rattle.totals.proofs.Types.{reach, top, cut, tally}
-use Rattle.partition_sound.specs.Pass.{stepOf}
-use Rattle.partition_sound.specs.Rest.{heldOf, startOf, begins, reachOf, weighedTo, clearedTo, judgedOf}
+use Rattle.totals.proofs.Types.{reach, top, cuts, tally}
+use Rattle.partition_sound.specs.Rest.{heldOf, startOf, begins, reachOf, weighedTo, clearedTo, landingTo}
+use Rattle.partition_sound.specs.Rest.{judgedOf, landedAt, foundOf, lastAt, endAt, stopAt, topAt, newestAt}
+use Rattle.partition_sound.specs.Rest.{cutsAt, tallyAt, landedBelow}
 use Rattle.partition_sound.specs.declared.Asked.{Asked}
-use Rattle.partition_sound.specs.declared.Held.{Held}
 use Rattle.partition_sound.specs.declared.Last.{Last}
-use Rattle.partition_sound.proofs.Laws.Rest.{lastAt, endAt, stopAt, topAt, cutAt, tallyAt, okUpTo, rest-found}
-use Rattle.partition_sound.proofs.Types.{last, held as records, epochs, asked}
-use Rattle.partition_sound.proofs.pass.pass.Symbol as pass-def
-use Rattle.partition_sound.proofs.pass.pass.Met as pass-thm
-use Rattle.partition_sound.proofs.rest.held_of.Symbol as held-of-def
-use Rattle.partition_sound.proofs.rest.held_of.Met as held-of-thm
-use Rattle.partition_sound.proofs.rest.epochs_in.Symbol as epochs-in-def
-use Rattle.partition_sound.proofs.rest.epochs_in.Met as epochs-in-thm
-use Rattle.partition_sound.proofs.rest.places_of.Symbol as places-of-def
-use Rattle.partition_sound.proofs.rest.places_of.Met as places-of-thm
-use Rattle.partition_sound.proofs.rest.totals_of.Symbol as totals-of-def
-use Rattle.partition_sound.proofs.rest.totals_of.Met as totals-of-thm
-use Rattle.partition_sound.proofs.rest.reach_of.Symbol as reach-of-def
-use Rattle.partition_sound.proofs.rest.reach_of.Met as reach-of-thm
-use Rattle.partition_sound.proofs.rest.start.Symbol as start-def
-use Rattle.partition_sound.proofs.rest.start.Met as start-thm
-use Rattle.partition_sound.proofs.rest.begin.Symbol as begin-def
-use Rattle.partition_sound.proofs.rest.begin.Met as begin-thm
-use Rattle.partition_sound.proofs.rest.place_of.Symbol as place-of-def
-use Rattle.partition_sound.proofs.rest.place_of.Met as place-of-thm
-use Rattle.partition_sound.proofs.rest.weighed_to.Symbol as weighed-to-def
-use Rattle.partition_sound.proofs.rest.weighed_to.Met as weighed-to-thm
-use Rattle.partition_sound.proofs.rest.cleared_to.Symbol as cleared-to-def
-use Rattle.partition_sound.proofs.rest.cleared_to.Met as cleared-to-thm
-use Rattle.partition_sound.proofs.rest.judged.Symbol as judged-def
-use Rattle.partition_sound.proofs.rest.judged.Met as judged-thm
-use Rattle.totals.proofs.from_of.Symbol as from-of-def
-use Rattle.totals.proofs.from_of.Met as from-of-thm
-use Rattle.totals.proofs.to_of.Symbol as to-of-def
-use Rattle.totals.proofs.to_of.Met as to-of-thm
-use Rattle.totals.proofs.clearing.no_top.Symbol as no-top-def
-use Rattle.totals.proofs.clearing.no_top.Met as no-top-thm
-use Rattle.totals.proofs.clearing.find.Symbol as find-def
-use Rattle.totals.proofs.clearing.find.Met as find-thm
-use Rattle.totals.proofs.landing.land_cut.Symbol as land-cut-def
-use Rattle.totals.proofs.landing.land_cut.Met as land-cut-thm
-use Rattle.totals.proofs.shown.no_tally.Symbol as no-tally-def
-use Rattle.totals.proofs.shown.no_tally.Met as no-tally-thm
-use Rattle.totals.proofs.shown.tally.Symbol as weigh-def
-use Rattle.totals.proofs.shown.tally.Met as weigh-thm
-use Rattle.partition_sound.proofs.rest_ok.Key.{name as #rest-ok}
-use Rattle.partition_sound.proofs.rest_ok as f
-use Rattle.partition_sound.proofs.rest_ok.Statement as stated
-use Rattle.partition_sound.proofs.rest_ok.Code as code
+use Rattle.partition_sound.specs.declared.Verdict.{Verdict}
+use Rattle.partition_sound.proofs.Laws.Rest.{okUpTo, rest-found}
+use Rattle.partition_sound.proofs.Types.{last, held as records, epochs, asked, verdict}
+use Rattle.partition_sound.proofs.rest_of.Proof.Callees.{passOf, findOf, tallyOf, Known, knowns}
+use Rattle.partition_sound.proofs.rest_of.Key.{name as #rest-of}
+use Rattle.partition_sound.proofs.rest_of as f
+use Rattle.partition_sound.proofs.rest_of.Statement as stated
+use Rattle.partition_sound.proofs.rest_of.Code as code
 
--- ---- the callees
-
-abbrev passOf : List Entry → List ℕ → Held → Last → ℕ → ℕ → Last
-passOf es js c s i j = turned (stepOf js c) s es i (j - i)
-
-abbrev findOf : List Entry → List ℕ → Reach → Top → ℕ → ℕ → Top
-findOf es ws r t i j = turned (topTurn r) t es i (j - i)
-
-abbrev tallyOf : List Entry → List ℕ → Cut → Tally → ℕ → ℕ → Tally
-tallyOf es ws c s i j = turned (tallyTurn ws c) s es i (j - i)
-
-module _ {M : Type 1} (𝓤 : URA M) (H : Heap 𝓤) (A : Atoms 𝓤) where
-  abbrev HeldOf : Contract 𝓤
-  HeldOf = Yields 𝓤 records (asked ∷ []) heldOf H A
-
-  abbrev EpochsIn : Contract 𝓤
-  EpochsIn = Yields 𝓤 epochs (asked ∷ []) (λ a. a .epochs) H A
-
-  abbrev PlacesOf : Contract 𝓤
-  PlacesOf = Yields 𝓤 places (asked ∷ []) (λ a. a .partitions) H A
-
-  abbrev TotalsOf : Contract 𝓤
-  TotalsOf = Yields 𝓤 totals (asked ∷ []) (λ a. a .totals) H A
-
-  abbrev ReachOf : Contract 𝓤
-  ReachOf = Yields 𝓤 reach (asked ∷ []) reachOf H A
-
-  abbrev Start : Contract 𝓤
-  Start = Yields 𝓤 last [] startOf H A
-
-  abbrev NoTop : Contract 𝓤
-  NoTop = Yields 𝓤 top [] noTop H A
-
-  abbrev NoTally : Contract 𝓤
-  NoTally = Yields 𝓤 tally [] noTally H A
-
-  abbrev Begin : Contract 𝓤
-  Begin = Yields 𝓤 flag (number ∷ number ∷ places ∷ []) begins H A
-
-  abbrev PlaceOf : Contract 𝓤
-  PlaceOf = Yields 𝓤 place (places ∷ number ∷ []) partitionIn H A
-
-  abbrev FromOf : Contract 𝓤
-  FromOf = Yields 𝓤 number (place ∷ []) fromOf H A
-
-  abbrev ToOf : Contract 𝓤
-  ToOf = Yields 𝓤 number (place ∷ []) toOf H A
-
-  abbrev Pass : Contract 𝓤
-  Pass = Finds2 𝓤 last (records ∷ last ∷ number ∷ number ∷ []) T.the-row u64 passOf H A
-
-  abbrev WeighedTo : Contract 𝓤
-  WeighedTo = Yields 𝓤 number (place ∷ last ∷ number ∷ number ∷ []) weighedTo H A
-
-  abbrev ClearedTo : Contract 𝓤
-  ClearedTo = Yields 𝓤 number (last ∷ number ∷ number ∷ []) clearedTo H A
-
-  abbrev Find : Contract 𝓤
-  Find = Finds2 𝓤 top (reach ∷ top ∷ number ∷ number ∷ []) T.the-row u64 findOf H A
-
-  abbrev LandCut : Contract 𝓤
-  LandCut = Yields 𝓤 cut (reach ∷ place ∷ top ∷ []) landCut H A
-
-  abbrev Weigh : Contract 𝓤
-  Weigh = Finds2 𝓤 tally (cut ∷ tally ∷ number ∷ number ∷ []) T.the-row u64 tallyOf H A
-
-  abbrev Judged : Contract 𝓤
-  Judged = Finds 𝓤 flag (flag ∷ totals ∷ number ∷ place ∷ last ∷ cut ∷ tally ∷ []) u64 judgedOf H A
-
-  -- what is known of them
-  pub record Known (𝓣 : Tables 𝓤 H) : Type 2 where
-    pub held-of : Triple 𝓤 (𝓣 .C held-of-def.name) HeldOf
-    pub epochs-in : Triple 𝓤 (𝓣 .C epochs-in-def.name) EpochsIn
-    pub places-of : Triple 𝓤 (𝓣 .C places-of-def.name) PlacesOf
-    pub totals-of : Triple 𝓤 (𝓣 .C totals-of-def.name) TotalsOf
-    pub reach-of : Triple 𝓤 (𝓣 .C reach-of-def.name) ReachOf
-    pub start : Triple 𝓤 (𝓣 .C start-def.name) Start
-    pub no-top : Triple 𝓤 (𝓣 .C no-top-def.name) NoTop
-    pub no-tally : Triple 𝓤 (𝓣 .C no-tally-def.name) NoTally
-    pub begin : Triple 𝓤 (𝓣 .C begin-def.name) Begin
-    pub place-of : Triple 𝓤 (𝓣 .C place-of-def.name) PlaceOf
-    pub from-of : Triple 𝓤 (𝓣 .C from-of-def.name) FromOf
-    pub to-of : Triple 𝓤 (𝓣 .C to-of-def.name) ToOf
-    pub pass : Triple 𝓤 (𝓣 .C pass-def.name) Pass
-    pub weighed-to : Triple 𝓤 (𝓣 .C weighed-to-def.name) WeighedTo
-    pub cleared-to : Triple 𝓤 (𝓣 .C cleared-to-def.name) ClearedTo
-    pub find : Triple 𝓤 (𝓣 .C find-def.name) Find
-    pub land-cut : Triple 𝓤 (𝓣 .C land-cut-def.name) LandCut
-    pub weigh : Triple 𝓤 (𝓣 .C weigh-def.name) Weigh
-    pub judged : Triple 𝓤 (𝓣 .C judged-def.name) Judged
-
--- ---- the walk
-
--- the result, the parameters, what stands before the loop, ok and p; behind the epochs, in local 15, what stands in it
+-- the result, the parameters, what stands before the loop, ok, the totals and p; behind the epochs, in local 17, what
+-- stands in it
 abbrev firsts : List Local
-firsts = take 15 (code.function .locals)
+firsts = take 17 (code.function .locals)
 
 abbrev others : List Local
-others = dropped 16 (code.function .locals)
+others = dropped 18 (code.function .locals)
 
 abbrev given : List Shown
 given = asked ∷ []
@@ -288,8 +158,17 @@ module _ {M : Type 1} (𝓤 : URA M) (H : Heap 𝓤) (A : Atoms 𝓤) (W : Given
     abbrev t : ℕ → Top
     t i = topAt (x .list) (w .list) a (q i)
 
-    abbrev c : ℕ → Cut
-    c i = cutAt (x .list) (w .list) a (q i)
+    abbrev g : Reach
+    g = a .lands
+
+    abbrev d : ℕ → ℕ
+    d i = landingTo g (fromOf (q i)) (s i)
+
+    abbrev u : ℕ → Top
+    u i = newestAt (x .list) (w .list) a (q i)
+
+    abbrev c : ℕ → Cuts
+    c i = cutsAt (x .list) (w .list) a (q i)
 
     abbrev v : ℕ → Tally
     v i = tallyAt (x .list) (w .list) a (q i)
@@ -302,23 +181,41 @@ module _ {M : Type 1} (𝓤 : URA M) (H : Heap 𝓤) (A : Atoms 𝓤) (W : Given
     unfolding okUpTo
     ok-suc i = refl
 
+    -- the totals after i partitions
+    abbrev cur : ℕ → List ℕ
+    cur i = landedBelow (x .list) (w .list) a i
+
+    cur-0 : ts ≡ cur 0
+    unfolding landedBelow
+    cur-0 = refl
+
+    cur-suc : (i : ℕ) → landedAt (cur i) i (u i) (v i) ≡ cur (suc i)
+    unfolding landedBelow
+    cur-suc i = refl
+
+    abbrev Own : List ℕ → Item 𝓤
+    Own z = ‵ (totals .row .own z (totals .val z ∷ []))
+
+    abbrev ans : Verdict
+    ans = foundOf (ok partitionsMax) (cur partitionsMax)
+
     abbrev Post : Val → SProp 𝓤
     Post = walkOf 𝓤 H A f.ended (drops slots kept) (f.clauses 𝓤 H A at-mem run) .post ((κs, qs, tt, xs, xvs), tt)
 
     module _ (room : Room T.the-row n) (roomy : Room u64 m) (ga : Is (asked .row) a (asked .val a ∷ [])) where
-      exits : ent 𝓤 (⋆ 𝓤 H A (‵ (token x) ∷ ‵ (token w) ∷ [])) (Post (vbool (ok partitionsMax)))
-      exits =
+      exits : Is (verdict .row) ans (verdict .val ans ∷ [])
+          → ent 𝓤 (⋆ 𝓤 H A (‵ (token x) ∷ ‵ (token w) ∷ [])) (Post (verdict .val ans))
+      exits gv =
           let ws = lastly κs slots kept silent xs in
           let eight = partitions-8 ps _ (ga .1 .1 .1 .1 .1 .1 .0) in
           qed W (‵ (token x) ∷ ‵ (token w) ∷ []) ∵
           suffices ! _ (ends-at 𝓤 H A f.ended (drops slots kept) (f.clauses 𝓤 H A at-mem run) W ((κs, qs, tt, xs,
-              xvs), tt)
-              (vbool (ok partitionsMax)) (ok partitionsMax) ws (no-fit κs slots kept xs ws)) $
-          says ! (rest-found (x .list) (w .list) a eight) $
+              xvs), tt) (verdict .val ans) ans ws (no-fit κs slots kept xs ws)) $
+          says ! (ap (λ (o : Bool). foundOf o (cur partitionsMax)) (rest-found (x .list) (w .list) a eight)) $
           nothing ! $ move ! (2 ∷ 0 ∷ []) $ join ! $ move ! (1 ∷ 0 ∷ []) $ join ! $ frame ! $
           use0 W (‵ (hasOf κs slots kept (drops slots kept) xs ws xvs)) (had 𝓤 H A W κs slots kept xs ws xvs) $ frame
               ! $
-          owned ! (flag .row) (Is (flag .row)) (flag .makes 𝓤 H A W) (ok partitionsMax) _ refl $ done !
+          owned ! (verdict .row) (Is (verdict .row)) (verdict .makes 𝓤 H A W) ans _ gv $ done !
 
       module _ (fs : Blocks firsts) (b : ℕ) (bs : Blocks others) where
         abbrev Fs : Env 𝓤 H
@@ -330,33 +227,34 @@ module _ {M : Type 1} (𝓤 : URA M) (H : Heap 𝓤) (A : Atoms 𝓤) (W : Given
         abbrev En : Env 𝓤 H
         En = Fs ++ ((epochs .mir, b) ∷ (Gs ++ []))
 
-        -- the first locals at ok and p
-        abbrev Kept : Bool → ℕ → Item 𝓤
-        Kept o j = Frame Fs (bare ∷ holds (held x) ∷ holds (held w) ∷ holds (asked .val a) ∷ holds (vint w64 n) ∷ holds
-            (vint w64 m) ∷ holds (records .val (heldOf a)) ∷ holds (places .val ps) ∷ holds (totals .val ts) ∷ holds
-            (reach .val r) ∷ holds (last .val startOf) ∷ holds (top .val noTop) ∷ holds (tally .val noTally) ∷ holds
-            (vbool o) ∷ holds (vint w64 j) ∷ [])
+        -- the first locals at ok, the totals and p
+        abbrev Kept : Bool → List ℕ → ℕ → Item 𝓤
+        Kept o z j = Frame Fs (bare ∷ holds (held x) ∷ holds (held w) ∷ holds (asked .val a) ∷ holds (vint w64 n) ∷
+            holds (vint w64 m) ∷ holds (records .val (heldOf a)) ∷ holds (places .val ps) ∷ holds (totals .val ts) ∷
+            holds (reach .val r) ∷ holds (reach .val g) ∷ holds (last .val startOf) ∷ holds (top .val noTop) ∷ holds
+            (tally .val noTally) ∷ holds (vbool o) ∷ holds (totals .val z) ∷ holds (vint w64 j) ∷ [])
 
         module _ (gh : Is (records .row) (heldOf a) (records .val (heldOf a) ∷ [])) (gp : Is (places .row) ps (places
             .val ps ∷ [])) (gk : Is (totals .row) ts (totals .val ts ∷ [])) (gr : Is (reach .row) r (reach .val r ∷
-            [])) (gs : Is (last .row) startOf (last .val startOf ∷ [])) (gn : Is (top .row) noTop (top .val noTop ∷
-            [])) (gy : Is (tally .row) noTally (tally .val noTally ∷ [])) (α : ℕ) (δ : GName) (len : length (a .epochs)
-            ≡ 32) where
+            [])) (gg : Is (reach .row) g (reach .val g ∷ [])) (gs : Is (last .row) startOf (last .val startOf ∷
+            [])) (gn : Is (top .row) noTop (top .val noTop ∷ [])) (gy : Is (tally .row) noTally (tally .val noTally ∷
+            [])) (α : ℕ) (δ : GName) (len : length (a .epochs) ≡ 32) where
           -- the epochs, lent
           abbrev y : Lent u64
           y = local-lent b α δ (a .epochs)
 
           -- the context after i turns
           abbrev Turned : ℕ → List (Item 𝓤)
-          Turned i = ‵ (token x) ∷ ‵ (shr x) ∷ ‵ (token y) ∷ ‵ (shr y) ∷ ‵ (token w) ∷ ‵ (shr w) ∷ Kept (ok i) i ∷ Frame
-              Gs (bares others) ∷ ‵ (LocalOut u64 b α (a .epochs)) ∷ ‵ (fdies (epochs .mir) b) ∷ []
+          Turned i = ‵ (token x) ∷ ‵ (shr x) ∷ ‵ (token y) ∷ ‵ (shr y) ∷ ‵ (token w) ∷ ‵ (shr w) ∷ Kept (ok i) (cur i)
+              i ∷ Frame Gs (bares others) ∷ ‵ (LocalOut u64 b α (a .epochs)) ∷ ‵ (fdies (epochs .mir) b) ∷ Own (cur i)
+              ∷ []
 
           -- where k turns are left
           abbrev Inv : ℕ → List (Item 𝓤)
           Inv k = Turned (partitionsMax - k)
 
           abbrev Left : Out → SProp 𝓤
-          Left = afterBlock 𝓤 H (afterSeq 𝓤 H (Wp 𝓤 H (𝓣 .C) (𝓣 .Λ) En code.Mir.t-15 (atReturn 𝓤 H En Post)) (atReturn 𝓤
+          Left = afterBlock 𝓤 H (afterSeq 𝓤 H (Wp 𝓤 H (𝓣 .C) (𝓣 .Λ) En code.Mir.t-17 (atReturn 𝓤 H En Post)) (atReturn 𝓤
               H En Post))
 
           abbrev Turns : ℕ → ℕ → Type 1
@@ -368,11 +266,13 @@ module _ {M : Type 1} (𝓤 : URA M) (H : Heap 𝓤) (A : Atoms 𝓤) (W : Given
           more k i less eq =
               let fits : i < 2 ^ 64 = omega (arith, less) in let next-fits : i + 1 < 2 ^ 64 = omega (arith, less) in
               let suc-fits : suc i < 2 ^ 64 = omega (arith, less) in
-              assigns ! (as-value (ap vbool (lt-ltb i partitionsMax less)) (bin ! (get ! 6 14 refl refl refl) (lit ! tt)
-                  tt)) (from ! (stop !)) (sets ! 7 10 refl tt (tt, tt)) $ stays ! (get ! 7 10 refl refl refl) $
+              move ! (10 ∷ []) $ peeks ! (totals .row) (Is (totals .row)) (shows 𝓤 H A (totals .row)) (cur i) (totals
+                  .val (cur i) ∷ []) (λ gc. drop ! $
+              assigns ! (as-value (ap vbool (lt-ltb i partitionsMax less)) (bin ! (get ! 6 16 refl refl refl) (lit ! tt)
+                  tt)) (from ! (stop !)) (sets ! 7 12 refl tt (tt, tt)) $ stays ! (get ! 7 12 refl refl refl) $
               yield-call fm place (places ∷ number ∷ []) partitionIn (known .place-of) (ps, (i, tt)) (gp, ((refl, fits),
                   tt))
-              (λ _. and-then ! (get ! 7 7 refl refl refl) (and-then ! (get ! 7 14 refl refl refl) (no-more !))) (λ gq.
+              (λ _. and-then ! (get ! 7 7 refl refl refl) (and-then ! (get ! 7 16 refl refl refl) (no-more !))) (λ gq.
               land ! (from ! (stop !)) (sets ! 7 0 refl tt (place .wt 𝓤 H A W (q i) gq)) $
               yield-call fm number (place ∷ []) fromOf (known .from-of) (q i, tt) (gq, tt)
               (λ _. and-then ! (get ! 8 0 refl refl refl) (no-more !)) (λ gf.
@@ -380,13 +280,13 @@ module _ {M : Type 1} (𝓤 : URA M) (H : Heap 𝓤) (A : Atoms 𝓤) (W : Given
               yield-call fm number (place ∷ []) toOf (known .to-of) (q i, tt) (gq, tt)
               (λ _. and-then ! (get ! 8 0 refl refl refl) (no-more !)) (λ gt.
               land ! (from ! (stop !)) (sets ! 7 2 refl tt (tt, record { fits = gt .1 })) $
-              assigns ! (addr ! (from ! (stop !))) (from ! (stop !)) (sets ! 7 11 refl tt (tt, tt)) $
-              assigns ! (agg ! (and-then ! (get ! 7 11 refl refl refl) (and-then ! (lit ! tt) (no-more !)))) (from !
-                  (stop !)) (sets ! 7 12 refl tt (tt, (tt, (record { fits = lit< tt }, tt)))) $
+              assigns ! (addr ! (from ! (stop !))) (from ! (stop !)) (sets ! 7 13 refl tt (tt, tt)) $
+              assigns ! (agg ! (and-then ! (get ! 7 13 refl refl refl) (and-then ! (lit ! tt) (no-more !)))) (from !
+                  (stop !)) (sets ! 7 14 refl tt (tt, (tt, (record { fits = lit< tt }, tt)))) $
               find2-call fm T.the-row u64 last (records ∷ last ∷ number ∷ number ∷ []) passOf (known .pass) x y (heldOf
                   a, (startOf, (fromOf (q i), (toOf (q i), tt)))) (gh, (gs, (gf, (gt, tt))))
-              (λ _ _ _. and-then ! (get ! 5 1 refl refl refl) (and-then ! (as-long ! len (get ! 6 12 refl refl refl))
-                  (and-then ! (get ! 5 6 refl refl refl) (and-then ! (get ! 5 10 refl refl refl) (and-then ! (get ! 6 1
+              (λ _ _ _. and-then ! (get ! 5 1 refl refl refl) (and-then ! (as-long ! len (get ! 6 14 refl refl refl))
+                  (and-then ! (get ! 5 6 refl refl refl) (and-then ! (get ! 5 11 refl refl refl) (and-then ! (get ! 6 1
                   refl refl refl) (and-then ! (get ! 6 2 refl refl refl) (no-more !))))))) (λ gl.
               land ! (from ! (stop !)) (sets ! 7 3 refl tt (last .wt 𝓤 H A W (l i) gl)) $
               yield-call fm number (place ∷ last ∷ number ∷ number ∷ []) weighedTo (known .weighed-to) (q i, (l i,
@@ -404,34 +304,55 @@ module _ {M : Type 1} (𝓤 : URA M) (H : Heap 𝓤) (A : Atoms 𝓤) (W : Given
               find2-call fm T.the-row u64 top (reach ∷ top ∷ number ∷ number ∷ []) findOf (known .find) x w (r, (noTop,
                   (fromOf (q i), (s i, tt)))) (gr, (gn, (gf, (gz, tt))))
               (λ _ _ _. and-then ! (get ! 5 1 refl refl refl) (and-then ! (get ! 5 2 refl refl refl) (and-then ! (get !
-                  5 9 refl refl refl) (and-then ! (get ! 5 11 refl refl refl) (and-then ! (get ! 6 1 refl refl refl)
+                  5 9 refl refl refl) (and-then ! (get ! 5 12 refl refl refl) (and-then ! (get ! 6 1 refl refl refl)
                   (and-then ! (get ! 6 5 refl refl refl) (no-more !))))))) (λ gu.
               land ! (from ! (stop !)) (sets ! 7 6 refl tt (top .wt 𝓤 H A W (t i) gu)) $
-              yield-call fm cut (reach ∷ place ∷ top ∷ []) landCut (known .land-cut) (r, (q i, (t i, tt))) (gr, (gq,
-                  (gu, tt)))
-              (λ _. and-then ! (get ! 7 9 refl refl refl) (and-then ! (get ! 8 0 refl refl refl) (and-then ! (get ! 8 6
-                  refl refl refl) (no-more !)))) (λ gc.
-              land ! (from ! (stop !)) (sets ! 7 7 refl tt (cut .wt 𝓤 H A W (c i) gc)) $
-              find2-call fm T.the-row u64 tally (cut ∷ tally ∷ number ∷ number ∷ []) tallyOf (known .weigh) x w (c i,
-                  (noTally, (fromOf (q i), (e i, tt)))) (gc, (gy, (gf, (ge, tt))))
+              yield-call fm number (reach ∷ number ∷ number ∷ []) landingTo (known .landing-to) (g, (fromOf (q i), (s i,
+                  tt))) (gg, (gf, (gz, tt)))
+              (λ _. and-then ! (get ! 7 10 refl refl refl) (and-then ! (get ! 8 1 refl refl refl) (and-then ! (get ! 8 5
+                  refl refl refl) (no-more !)))) (λ gd.
+              land ! (from ! (stop !)) (sets ! 7 7 refl tt (tt, record { fits = gd .1 })) $
+              find2-call fm T.the-row u64 top (reach ∷ top ∷ number ∷ number ∷ []) findOf (known .find) x w (g, (noTop,
+                  (fromOf (q i), (d i, tt)))) (gg, (gn, (gf, (gd, tt))))
               (λ _ _ _. and-then ! (get ! 5 1 refl refl refl) (and-then ! (get ! 5 2 refl refl refl) (and-then ! (get !
-                  6 7 refl refl refl) (and-then ! (get ! 5 12 refl refl refl) (and-then ! (get ! 6 1 refl refl refl)
+                  5 10 refl refl refl) (and-then ! (get ! 5 12 refl refl refl) (and-then ! (get ! 6 1 refl refl refl)
+                  (and-then ! (get ! 6 7 refl refl refl) (no-more !))))))) (λ gw.
+              land ! (from ! (stop !)) (sets ! 7 8 refl tt (top .wt 𝓤 H A W (u i) gw)) $
+              yield-call fm cuts (place ∷ reach ∷ top ∷ reach ∷ top ∷ []) cutsOf (known .cuts-of) (q i, (r, (t i, (g, (u
+                  i, tt))))) (gq, (gr, (gu, (gg, (gw, tt)))))
+              (λ _. and-then ! (get ! 8 0 refl refl refl) (and-then ! (get ! 7 9 refl refl refl) (and-then ! (get ! 8 6
+                  refl refl refl) (and-then ! (get ! 7 10 refl refl refl) (and-then ! (get ! 8 8 refl refl refl)
+                  (no-more !)))))) (λ gm.
+              land ! (from ! (stop !)) (sets ! 7 9 refl tt (cuts .wt 𝓤 H A W (c i) gm)) $
+              find2-call fm T.the-row u64 tally (cuts ∷ tally ∷ number ∷ number ∷ []) tallyOf (known .weigh) x w (c i,
+                  (noTally, (fromOf (q i), (e i, tt)))) (gm, (gy, (gf, (ge, tt))))
+              (λ _ _ _. and-then ! (get ! 5 1 refl refl refl) (and-then ! (get ! 5 2 refl refl refl) (and-then ! (get !
+                  6 9 refl refl refl) (and-then ! (get ! 5 13 refl refl refl) (and-then ! (get ! 6 1 refl refl refl)
                   (and-then ! (get ! 6 4 refl refl refl) (no-more !))))))) (λ gv.
-              land ! (from ! (stop !)) (sets ! 7 8 refl tt (tally .wt 𝓤 H A W (v i) gv)) $
+              land ! (from ! (stop !)) (sets ! 7 10 refl tt (tally .wt 𝓤 H A W (v i) gv)) $
               -- [the rows; the entries; the epochs; the first locals; the others]
               move ! (2 ∷ 3 ∷ []) $
-              find-call fm u64 flag (flag ∷ totals ∷ number ∷ place ∷ last ∷ cut ∷ tally ∷ []) judgedOf (known .judged)
-                  w (ok i, (ts, (i, (q i, (l i, (c i, (v i, tt))))))) (refl, (gk, ((refl, fits), (gq, (gl, (gc, (gv,
+              find-call fm u64 flag (flag ∷ totals ∷ number ∷ place ∷ last ∷ cuts ∷ tally ∷ []) judgedOf (known .judged)
+                  w (ok i, (ts, (i, (q i, (l i, (c i, (v i, tt))))))) (refl, (gk, ((refl, fits), (gq, (gl, (gm, (gv,
                   tt)))))))
-              (λ _ _. and-then ! (get ! 6 2 refl refl refl) (and-then ! (get ! 6 13 refl refl refl) (and-then ! (get ! 6
-                  8 refl refl refl) (and-then ! (get ! 6 14 refl refl refl) (and-then ! (get ! 7 0 refl refl refl)
-                  (and-then ! (get ! 7 3 refl refl refl) (and-then ! (get ! 7 7 refl refl refl) (and-then ! (get ! 7 8
+              (λ _ _. and-then ! (get ! 6 2 refl refl refl) (and-then ! (get ! 6 14 refl refl refl) (and-then ! (get ! 6
+                  8 refl refl refl) (and-then ! (get ! 6 16 refl refl refl) (and-then ! (get ! 7 0 refl refl refl)
+                  (and-then ! (get ! 7 3 refl refl refl) (and-then ! (get ! 7 9 refl refl refl) (and-then ! (get ! 7 10
                   refl refl refl) (no-more !))))))))) (λ _.
-              land ! (from ! (stop !)) (sets ! 6 13 refl tt (tt, tt)) $
-              assigns-last ! (as-value (ap (vint w64) (add-one i)) (bin ! (get ! 6 14 refl refl refl) (lit ! tt) (record
-                  { fits = next-fits }))) (from ! (stop !)) (sets ! 6 14 refl tt (tt, record { fits = suc-fits })) $
+              land ! (from ! (stop !)) (sets ! 6 14 refl tt (tt, tt)) $
+              yield-call fm totals (totals ∷ number ∷ top ∷ tally ∷ []) landedAt (known .landed-at) (cur i, (i, (u i, (v
+                  i, tt)))) (gc, ((refl, fits), (gw, (gv, tt))))
+              (λ _. and-then ! (get ! 7 15 refl refl refl) (and-then ! (get ! 7 16 refl refl refl) (and-then ! (get ! 8
+                  8 refl refl refl) (and-then ! (get ! 8 10 refl refl refl) (no-more !))))) (λ gx.
+              land ! (from ! (stop !)) (sets ! 6 15 refl tt (totals .wt 𝓤 H A W (landedAt (cur i) i (u i) (v i)) gx)) $
+              assigns-last ! (as-value (ap (vint w64) (add-one i)) (bin ! (get ! 6 16 refl refl refl) (lit ! tt) (record
+                  { fits = next-fits }))) (from ! (stop !)) (sets ! 6 16 refl tt (tt, record { fits = suc-fits })) $
               move ! (7 ∷ []) $ empties ! $ move ! (3 ∷ 4 ∷ 5 ∷ 6 ∷ 1 ∷ 2 ∷ 7 ∷ []) $
-              rewrite ! 6 (λ (o : Bool). Kept o (suc i)) (ok-suc i) refl $ goes-on))))))))))
+              owned ! (totals .row) (Is (totals .row)) (totals .makes 𝓤 H A W) (landedAt (cur i) i (u i) (v i)) _ gx $
+              move ! (1 ∷ 2 ∷ 3 ∷ 4 ∷ 5 ∷ 6 ∷ 7 ∷ 8 ∷ 9 ∷ 10 ∷ []) $
+              rewrite ! 6 (λ (o : Bool). Kept o (landedAt (cur i) i (u i) (v i)) (suc i)) (ok-suc i) refl $
+              rewrite ! 6 (λ (z : List ℕ). Kept (ok (suc i)) z (suc i)) (cur-suc i) refl $
+              rewrite ! 10 (λ (z : List ℕ). Own z) (cur-suc i) refl $ goes-on))))))))))))))
             where
               goes-on : Sq W (Turned (suc i)) (prop (Below 𝓤 H A _<_ Inv (suc k)))
               goes-on = subst (λ (j : ℕ). Sq W (Turned j) (prop (Below 𝓤 H A _<_ Inv (suc k)))) {x = partitionsMax -
@@ -441,17 +362,22 @@ module _ {M : Type 1} (𝓤 : URA M) (H : Heap 𝓤) (A : Atoms 𝓤) (W : Given
           ends : Turns zero partitionsMax
           unfolding afterTurn
           ends =
-              assigns ! (bin ! (get ! 6 14 refl refl refl) (lit ! tt) tt) (from ! (stop !)) (sets ! 7 10 refl tt (tt,
+              move ! (10 ∷ []) $ peeks ! (totals .row) (Is (totals .row)) (shows 𝓤 H A (totals .row)) (cur
+                  partitionsMax) (totals .val (cur partitionsMax) ∷ []) (λ gc. drop ! $
+              assigns ! (bin ! (get ! 6 16 refl refl refl) (lit ! tt) tt) (from ! (stop !)) (sets ! 7 12 refl tt (tt,
                   tt)) $
-              leaves-loop ! (get ! 7 10 refl refl refl) $ exec ! (𝓣 .C) (𝓣 .Λ) En code.Mir.t-15 (atRet En Post) $
+              leaves-loop ! (get ! 7 12 refl refl refl) $ exec ! (𝓣 .C) (𝓣 .Λ) En code.Mir.t-17 (atRet En Post) $
               -- the epochs are an array again
               move ! (2 ∷ 8 ∷ []) $ back-shared-local ! tt u64 32 b α δ (a .epochs) len $
               value-out ! epochs refl (a .epochs) b (λ _.
               -- [the array; the entries; the epochs as they were lent; the rows; the first locals; the others; what
               -- frees the array]
-              assigns ! (of-opd ! (get ! 6 13 refl refl refl)) (from ! (stop !)) (sets ! 6 0 refl tt (tt, tt)) $
+              yield-call fm verdict (flag ∷ totals ∷ []) foundOf (known .found) (ok partitionsMax, (cur partitionsMax,
+                  tt)) (refl, (gc, tt))
+              (λ _. and-then ! (get ! 7 14 refl refl refl) (and-then ! (get ! 7 15 refl refl refl) (no-more !))) (λ gv.
+              land ! (from ! (stop !)) (sets ! 6 0 refl tt (verdict .wt 𝓤 H A W ans gv)) $
               returns ! (look-in ! 6 (within ! 0 refl)) $ forget ! 0 refl $ move ! (6 ∷ 0 ∷ 8 ∷ 7 ∷ []) $
-              frees-frame ! Fs _ $ free1 ! $ frees-frame ! Gs [] $ free0 ! $ keep ! (0 ∷ 3 ∷ []) $ by ! exits)
+              frees-frame ! Fs _ $ free1 ! $ frees-frame ! Gs [] $ free0 ! $ keep ! (0 ∷ 3 ∷ []) $ by ! (exits gv))))
 
           turn : (k : ℕ) → Turns k (partitionsMax - k)
           turn zero = ends
@@ -462,8 +388,8 @@ module _ {M : Type 1} (𝓤 : URA M) (H : Heap 𝓤) (A : Atoms 𝓤) (W : Given
 
         begins-at : Sq W (‵ (token x) ∷ ‵ (shr x) ∷ ‵ (token w) ∷ ‵ (shr w) ∷ Frame Fs (bare ∷ holds (held x) ∷ holds
             (held w) ∷ holds (asked .val a) ∷ bare ∷ bare ∷ bare ∷ bare ∷ bare ∷ bare ∷ bare ∷ bare ∷ bare ∷ bare ∷ bare
-            ∷ []) ∷ Frame Gs (bares others) ∷ ‵ (froom (epochs .mir) b 0) ∷ ‵ (fdies (epochs .mir) b) ∷ []) (runs (𝓣
-            .C) (𝓣 .Λ) En code.Mir.t-1 (atRet En Post))
+            ∷ bare ∷ bare ∷ []) ∷ Frame Gs (bares others) ∷ ‵ (froom (epochs .mir) b 0) ∷ ‵ (fdies (epochs .mir) b) ∷
+            []) (runs (𝓣 .C) (𝓣 .Λ) En code.Mir.t-1 (atRet En Post))
         begins-at =
             assigns ! (of-opd ! (load ! (from ! (fld ! refl (stop !))) (look-in ! 4 (sub ! 1 refl (within ! 1 refl)))))
                 (from ! (stop !)) (sets ! 4 4 refl tt (tt, record { fits = room .0 })) $
@@ -481,31 +407,40 @@ module _ {M : Type 1} (𝓤 : URA M) (H : Heap 𝓤) (A : Atoms 𝓤) (W : Given
             yield-call fm reach (asked ∷ []) reachOf (known .reach-of) (a, tt) (ga, tt)
                 (λ _. and-then ! (get ! 5 3 refl refl refl) (no-more !)) (λ gr.
             land ! (from ! (stop !)) (sets ! 4 9 refl tt (reach .wt 𝓤 H A W r gr)) $
+            yield-call fm reach (asked ∷ []) (λ a. a .lands) (known .lands-of) (a, tt) (ga, tt)
+                (λ _. and-then ! (get ! 5 3 refl refl refl) (no-more !)) (λ gg.
+            land ! (from ! (stop !)) (sets ! 4 10 refl tt (reach .wt 𝓤 H A W g gg)) $
             yield-call fm last [] startOf (known .start) tt tt (λ _. no-more !) (λ gs.
-            land ! (from ! (stop !)) (sets ! 4 10 refl tt (last .wt 𝓤 H A W startOf gs)) $
+            land ! (from ! (stop !)) (sets ! 4 11 refl tt (last .wt 𝓤 H A W startOf gs)) $
             yield-call fm top [] noTop (known .no-top) tt tt (λ _. no-more !) (λ gn.
-            land ! (from ! (stop !)) (sets ! 4 11 refl tt (top .wt 𝓤 H A W noTop gn)) $
+            land ! (from ! (stop !)) (sets ! 4 12 refl tt (top .wt 𝓤 H A W noTop gn)) $
             yield-call fm tally [] noTally (known .no-tally) tt tt (λ _. no-more !) (λ gy.
-            land ! (from ! (stop !)) (sets ! 4 12 refl tt (tally .wt 𝓤 H A W noTally gy)) $
+            land ! (from ! (stop !)) (sets ! 4 13 refl tt (tally .wt 𝓤 H A W noTally gy)) $
             yield-call fm flag (number ∷ number ∷ places ∷ []) begins (known .begin) (n, (m, (ps, tt))) ((refl, room
                 .0), ((refl, roomy .0), (gp, tt)))
                 (λ _. and-then ! (get ! 5 4 refl refl refl) (and-then ! (get ! 5 5 refl refl refl) (and-then ! (get ! 5
                 7 refl refl refl) (no-more !)))) (λ _.
-            land ! (from ! (stop !)) (sets ! 4 13 refl tt (tt, tt)) $
-            assigns ! (of-opd ! (lit ! tt)) (from ! (stop !)) (sets ! 4 14 refl tt (tt, record { fits = lit< tt })) $
+            land ! (from ! (stop !)) (sets ! 4 14 refl tt (tt, tt)) $
+            yield-call fm totals (asked ∷ []) (λ a. a .totals) (known .totals-of) (a, tt) (ga, tt)
+                (λ _. and-then ! (get ! 5 3 refl refl refl) (no-more !)) (λ gx.
+            land ! (from ! (stop !)) (sets ! 4 15 refl tt (totals .wt 𝓤 H A W ts gx)) $
+            assigns ! (of-opd ! (lit ! tt)) (from ! (stop !)) (sets ! 4 16 refl tt (tt, record { fits = lit< tt })) $
             yield-call fm epochs (asked ∷ []) (λ a. a .epochs) (known .epochs-in) (a, tt) (ga, tt)
                 (λ _. and-then ! (get ! 5 3 refl refl refl) (no-more !)) (λ ge.
-            land ! (from ! (stop !)) (sets ! 5 9 refl tt (epochs .wt 𝓤 H A W (a .epochs) ge)) $
-            assigns ! (of-opd ! (get ! 5 9 refl refl refl)) (from ! (stop !)) (init ! 6 refl (epochs .wt 𝓤 H A W (a
+            land ! (from ! (stop !)) (sets ! 5 11 refl tt (epochs .wt 𝓤 H A W (a .epochs) ge)) $
+            assigns ! (of-opd ! (get ! 5 11 refl refl refl)) (from ! (stop !)) (init ! 6 refl (epochs .wt 𝓤 H A W (a
                 .epochs) ge)) $
-            rewrite ! 4 (λ (o : Bool). Kept o 0) ok-0 refl $ move ! (5 ∷ []) $ empties ! $
+            rewrite ! 4 (λ (o : Bool). Kept o ts 0) ok-0 refl $ rewrite ! 4 (λ (z : List ℕ). Kept (ok 0) z 0) cur-0
+                refl $ move ! (5 ∷ []) $ empties ! $
             -- [the others; the entries; the rows; the first locals; the array; what frees it]
             move ! (6 ∷ []) $ value-in ! epochs refl (a .epochs) b ge $
             shares-local ! tt u64 32 tt b (a .epochs) (lit< tt, lit< tt) (λ α δ len.
             -- [the epochs, lent; what is kept of them; the others; the entries; the rows; the first locals; what frees
             -- the array]
-            move ! (4 ∷ 5 ∷ 0 ∷ 1 ∷ 6 ∷ 7 ∷ 8 ∷ 3 ∷ 2 ∷ []) $ first ! $ blocks ! $ starts gh gp gk gr gs gn gy α δ
-                len))))))))))
+            move ! (4 ∷ 5 ∷ 0 ∷ 1 ∷ 6 ∷ 7 ∷ 8 ∷ 3 ∷ 2 ∷ []) $
+            owned ! (totals .row) (Is (totals .row)) (totals .makes 𝓤 H A W) ts _ gx $
+            move ! (1 ∷ 2 ∷ 3 ∷ 4 ∷ 5 ∷ 6 ∷ 7 ∷ 8 ∷ 9 ∷ 10 ∷ []) $ rewrite ! 10 (λ (z : List ℕ). Own z) cur-0 refl $
+            first ! $ blocks ! $ starts gh gp gk gr gg gs gn gy α δ len))))))))))))
 
       walk : ent 𝓤 (onEntry 𝓤 H A f.signature κs qs xs xvs) (WpFn 𝓤 H (𝓣 .C) (𝓣 .Λ) code.function passed Post)
       walk =
@@ -522,9 +457,9 @@ module _ {M : Type 1} (𝓤 : URA M) (H : Heap 𝓤) (A : Atoms 𝓤) (W : Given
           move ! (7 ∷ []) $ split ! $ move ! (1 ∷ []) $ split ! $ keep ! (2 ∷ 5 ∷ 0 ∷ 3 ∷ 9 ∷ 6 ∷ 7 ∷ 8 ∷ []) $
           begins-at fs b bs)))
 
-  rest-ok-walks : Walks 𝓤 H A f.ended (drops slots kept) (WpFn 𝓤 H (𝓣 .C) (𝓣 .Λ) code.function) (f.clauses 𝓤 H A
+  rest-of-walks : Walks 𝓤 H A f.ended (drops slots kept) (WpFn 𝓤 H (𝓣 .C) (𝓣 .Λ) code.function) (f.clauses 𝓤 H A
       at-mem run)
-  rest-ok-walks = walked 𝓤 H A f.ended (drops slots kept) (f.clauses 𝓤 H A at-mem run) (WpFn 𝓤 H (𝓣 .C) (𝓣 .Λ)
+  rest-of-walks = walked 𝓤 H A f.ended (drops slots kept) (f.clauses 𝓤 H A at-mem run) (WpFn 𝓤 H (𝓣 .C) (𝓣 .Λ)
       code.function)
       (λ κs. (slice-vals, (slice-vals, spells 2 κs given)))
       (λ κs. (shr-slice-tells (named 0) (κs .0) T.the-row, (shr-slice-tells (named 1) (κs .1 .0) u64, tells 2 κs
@@ -532,53 +467,16 @@ module _ {M : Type 1} (𝓤 : URA M) (H : Heap 𝓤) (A : Atoms 𝓤) (W : Given
       (λ κs qs bounds a g are. via 𝓤 _ (fst∗ 𝓤 _ (emp 𝓤)) (walk (lent-by (κs .0) (qs .0) (a .0)) (lent-by (κs .1 .0)
           (qs .1 .0) (a .1 .0)) (a .1 .1 .0) (are .0 .0 .1) (are .1 .0 .0 .1) (are .1 .1 .0)))
 
-  rest-ok-meets : Meets 𝓤 H A f.signature (WpFn 𝓤 H (𝓣 .C) (𝓣 .Λ) code.function) (f.spec 𝓤 H A at-mem run)
-  rest-ok-meets = walk-meets 𝓤 H A f.ended (drops slots kept) W (drops-go 𝓤 H A W slots kept silent) (f.clauses 𝓤 H A
+  rest-of-meets : Meets 𝓤 H A f.signature (WpFn 𝓤 H (𝓣 .C) (𝓣 .Λ) code.function) (f.spec 𝓤 H A at-mem run)
+  rest-of-meets = walk-meets 𝓤 H A f.ended (drops slots kept) W (drops-go 𝓤 H A W slots kept silent) (f.clauses 𝓤 H A
       at-mem
-      run) (WpFn 𝓤 H (𝓣 .C) (𝓣 .Λ) code.function) (WpFn-mono 𝓤 H (W .laws) 𝓣 code.function) rest-ok-walks
+      run) (WpFn 𝓤 H (𝓣 .C) (𝓣 .Λ) code.function) (WpFn-mono 𝓤 H (W .laws) 𝓣 code.function) rest-of-walks
 
-pub rest-ok-spec : {M : Type 1} → stated.statement M
+pub rest-of-spec : {M : Type 1} → stated.statement M
 unfolding code.routine tablesOf
-rest-ok-spec 𝓤 H 𝓜 𝓖 𝓡 =
+rest-of-spec 𝓤 H 𝓜 𝓖 𝓡 =
     let A = 𝓖 .A in let env = code.env in
     entered 𝓤 H (tripleOf 𝓤 H A f.signature (f.spec 𝓤 H A (𝓜 .mem) (𝓡 .run)))
-    (tables 𝓤 H 𝓜 𝓡 env .C) (tables 𝓤 H 𝓜 𝓡 env .Λ) #rest-ok code.function (code.unfolded 𝓤 H 𝓜 𝓡)
-    (rest-ok-meets 𝓤 H A (givenOf 𝓤 H 𝓜 𝓖) (𝓜 .mem) (𝓡 .run) (tablesOf 𝓤 H 𝓜 (tables 𝓤 H 𝓜 𝓡 env)) (record {
-      held-of = cited 𝓤 H (HeldOf 𝓤 H A) 𝓜 𝓡 env held-of-def.name held-of-def.routine
-        code.calls-partition-sound·rest·held-of (held-of-thm.met 𝓤 H 𝓜 𝓖 𝓡);
-      epochs-in = cited 𝓤 H (EpochsIn 𝓤 H A) 𝓜 𝓡 env epochs-in-def.name epochs-in-def.routine
-        code.calls-partition-sound·rest·epochs-in (epochs-in-thm.met 𝓤 H 𝓜 𝓖 𝓡);
-      places-of = cited 𝓤 H (PlacesOf 𝓤 H A) 𝓜 𝓡 env places-of-def.name places-of-def.routine
-        code.calls-partition-sound·rest·places-of (places-of-thm.met 𝓤 H 𝓜 𝓖 𝓡);
-      totals-of = cited 𝓤 H (TotalsOf 𝓤 H A) 𝓜 𝓡 env totals-of-def.name totals-of-def.routine
-        code.calls-partition-sound·rest·totals-of (totals-of-thm.met 𝓤 H 𝓜 𝓖 𝓡);
-      reach-of = cited 𝓤 H (ReachOf 𝓤 H A) 𝓜 𝓡 env reach-of-def.name reach-of-def.routine
-        code.calls-partition-sound·rest·reach-of (reach-of-thm.met 𝓤 H 𝓜 𝓖 𝓡);
-      start = cited 𝓤 H (Start 𝓤 H A) 𝓜 𝓡 env start-def.name start-def.routine
-        code.calls-partition-sound·rest·start (start-thm.met 𝓤 H 𝓜 𝓖 𝓡);
-      no-top = cited 𝓤 H (NoTop 𝓤 H A) 𝓜 𝓡 env no-top-def.name no-top-def.routine
-        code.calls-totals·clearing·no-top (no-top-thm.met 𝓤 H 𝓜 𝓖 𝓡);
-      no-tally = cited 𝓤 H (NoTally 𝓤 H A) 𝓜 𝓡 env no-tally-def.name no-tally-def.routine
-        code.calls-totals·shown·no-tally (no-tally-thm.met 𝓤 H 𝓜 𝓖 𝓡);
-      begin = cited 𝓤 H (Begin 𝓤 H A) 𝓜 𝓡 env begin-def.name begin-def.routine
-        code.calls-partition-sound·rest·begin (begin-thm.met 𝓤 H 𝓜 𝓖 𝓡);
-      place-of = cited 𝓤 H (PlaceOf 𝓤 H A) 𝓜 𝓡 env place-of-def.name place-of-def.routine
-        code.calls-partition-sound·rest·place-of (place-of-thm.met 𝓤 H 𝓜 𝓖 𝓡);
-      from-of = cited 𝓤 H (FromOf 𝓤 H A) 𝓜 𝓡 env from-of-def.name from-of-def.routine
-        code.calls-totals·from-of (from-of-thm.met 𝓤 H 𝓜 𝓖 𝓡);
-      to-of = cited 𝓤 H (ToOf 𝓤 H A) 𝓜 𝓡 env to-of-def.name to-of-def.routine
-        code.calls-totals·to-of (to-of-thm.met 𝓤 H 𝓜 𝓖 𝓡);
-      pass = cited 𝓤 H (Pass 𝓤 H A) 𝓜 𝓡 env pass-def.name pass-def.routine
-        code.calls-partition-sound·pass·pass (pass-thm.met 𝓤 H 𝓜 𝓖 𝓡);
-      weighed-to = cited 𝓤 H (WeighedTo 𝓤 H A) 𝓜 𝓡 env weighed-to-def.name weighed-to-def.routine
-        code.calls-partition-sound·rest·weighed-to (weighed-to-thm.met 𝓤 H 𝓜 𝓖 𝓡);
-      cleared-to = cited 𝓤 H (ClearedTo 𝓤 H A) 𝓜 𝓡 env cleared-to-def.name cleared-to-def.routine
-        code.calls-partition-sound·rest·cleared-to (cleared-to-thm.met 𝓤 H 𝓜 𝓖 𝓡);
-      find = cited 𝓤 H (Find 𝓤 H A) 𝓜 𝓡 env find-def.name find-def.routine
-        code.calls-totals·clearing·find (find-thm.met 𝓤 H 𝓜 𝓖 𝓡);
-      land-cut = cited 𝓤 H (LandCut 𝓤 H A) 𝓜 𝓡 env land-cut-def.name land-cut-def.routine
-        code.calls-totals·landing·land-cut (land-cut-thm.met 𝓤 H 𝓜 𝓖 𝓡);
-      weigh = cited 𝓤 H (Weigh 𝓤 H A) 𝓜 𝓡 env weigh-def.name weigh-def.routine
-        code.calls-totals·shown·tally (weigh-thm.met 𝓤 H 𝓜 𝓖 𝓡);
-      judged = cited 𝓤 H (Judged 𝓤 H A) 𝓜 𝓡 env judged-def.name judged-def.routine
-        code.calls-partition-sound·rest·judged (judged-thm.met 𝓤 H 𝓜 𝓖 𝓡) }))
+    (tables 𝓤 H 𝓜 𝓡 env .C) (tables 𝓤 H 𝓜 𝓡 env .Λ) #rest-of code.function (code.unfolded 𝓤 H 𝓜 𝓡)
+    (rest-of-meets 𝓤 H A (givenOf 𝓤 H 𝓜 𝓖) (𝓜 .mem) (𝓡 .run) (tablesOf 𝓤 H 𝓜 (tables 𝓤 H 𝓜 𝓡 env))
+      (knowns 𝓤 H 𝓜 𝓖 𝓡))

@@ -1,7 +1,7 @@
 -- `store::begin` meets its contract: it has the shape that shapes' `Look.antt` walks.
 -- Assumes nothing.
 use mathlib.Core.Path.{refl}
-use mathlib.Core.List.{[], _∷_}
+use mathlib.Core.List.{[]}
 use contract.Running.{givenOf, tables, tablesOf}
 use denote.Triple.Spec.{tripleOf}
 use denote.Triple.Table.{entered, cited}
@@ -9,7 +9,7 @@ use Rattle.rules.specs.Step.{step, begin}
 use Rattle.rules.specs.declared.ManagerCall.the-variants.{Begin}
 use Rattle.store.specs.Kept.{storeOf, Left, managerKept}
 use Rattle.shapes.proofs.Core.{Asks, Rests}
-use Rattle.shapes.proofs.Look.{Look, asking, at-once, Core, meets}
+use Rattle.shapes.proofs.Look.{Look, asking, Core, meets}
 use Rattle.partition_sound.proofs.ask.Symbol as ask
 use Rattle.partition_sound.proofs.ask.Met as ask-thm
 use Rattle.partition_sound.proofs.rest_ok.Symbol as rest
@@ -25,7 +25,7 @@ use Rattle.store.proofs.begin.Statement as stated
 use Rattle.store.proofs.begin.Code as code
 
 abbrev shape : Look
-shape = record { head = asking asks; answer = kept; given = []; ending = at-once; core = core.name;
+shape = record { head = asking asks; answer = kept; given = []; core = core.name;
   answerOf = λ s rest. managerKept s rest Begin;
   Ends = λ s es rs r. Left (step begin (storeOf s rs es)) r rs es;
   ends = λ s g es rs κs t. manage-left s (state-8 s _ g) (totals-8 s _ g) es rs Begin refl }
@@ -41,5 +41,4 @@ begin-spec 𝓤 H 𝓜 𝓖 𝓡 =
     (cited 𝓤 H (Rests asks 𝓤 H (𝓖 .A)) 𝓜 𝓡 code.env rest.name rest.routine code.calls-partition-sound·rest-ok
       (rest-thm.met 𝓤 H 𝓜 𝓖 𝓡)))
     (cited 𝓤 H (Core shape 𝓤 H (𝓖 .A)) 𝓜 𝓡 code.env core.name core.routine code.calls-txn-start·begin
-      (core-thm.met 𝓤 H 𝓜 𝓖 𝓡))
-    tt)
+      (core-thm.met 𝓤 H 𝓜 𝓖 𝓡)))

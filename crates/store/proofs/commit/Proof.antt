@@ -6,35 +6,27 @@ use denote.Triple.Spec.{tripleOf}
 use denote.Triple.Table.{entered, cited}
 use Rattle.rules.specs.Step.{step, commit}
 use Rattle.rules.specs.declared.ManagerCall.the-variants.{Commit}
-use Rattle.store.specs.Kept.{storeOf, Left, managerKept}
+use Rattle.store.specs.Kept.{storeOf, Left, managerKept, restKept}
 use Rattle.walks.proofs.Shown.{number}
-use Rattle.shapes.proofs.Core.{Asks, Rests}
-use Rattle.shapes.proofs.Land.{Makes, Weighs, Answers}
-use Rattle.shapes.proofs.Look.{Look, asking, lands, Core, meets}
-use Rattle.partition_sound.proofs.ask.Symbol as ask
-use Rattle.partition_sound.proofs.ask.Met as ask-thm
-use Rattle.partition_sound.proofs.rest_ok.Symbol as rest
-use Rattle.partition_sound.proofs.rest_ok.Met as rest-thm
-use Rattle.totals.proofs.landing.land.Symbol as land
-use Rattle.totals.proofs.landing.land.Met as land-thm
-use Rattle.store.proofs.Types.{kept, asks, landings}
+use Rattle.shapes.proofs.Core.{Weighs, Founds}
+use Rattle.shapes.proofs.Look.{Look, weighing, Core, meets}
+use Rattle.partition_sound.proofs.rest_of.Symbol as rest
+use Rattle.partition_sound.proofs.rest_of.Met as rest-thm
+use Rattle.store.proofs.Types.{kept, weighsCommit}
 use Rattle.store.proofs.Laws.Kept.{manage-lands}
 use Rattle.store.proofs.Laws.Write.{state-8, totals-8}
-use Rattle.store.proofs.books.landing.Symbol as new
-use Rattle.store.proofs.books.landing.Met as new-thm
-use Rattle.store.proofs.books.landed.Symbol as landed
-use Rattle.store.proofs.books.landed.Met as landed-thm
-use Rattle.txn_close.proofs.commit.Symbol as core
-use Rattle.txn_close.proofs.commit.Met as core-thm
+use Rattle.store.proofs.books.ask_commit.Symbol as ask
+use Rattle.store.proofs.books.ask_commit.Met as ask-thm
+use Rattle.store.proofs.books.commit_core.Symbol as core
+use Rattle.store.proofs.books.commit_core.Met as core-thm
 use Rattle.store.proofs.commit.Key.{name as #store·commit}
 use Rattle.store.proofs.commit as f
 use Rattle.store.proofs.commit.Statement as stated
 use Rattle.store.proofs.commit.Code as code
 
 abbrev shape : Look
-shape = record { head = asking asks; answer = kept; given = number ∷ []; ending = lands landings;
-  core = core.name;
-  answerOf = λ s rest i. managerKept s rest (Commit i);
+shape = record { head = weighing weighsCommit; answer = kept; given = number ∷ []; core = core.name;
+  answerOf = λ s r i. restKept (managerKept s (r .ok) (Commit i)) r;
   Ends = λ s es rs i r. Left (step (commit i) (storeOf s rs es)) r rs es;
   ends = λ s g es rs κs t. manage-lands s (state-8 s _ g) (totals-8 s _ g) es rs (Commit (t .0)) }
 
@@ -44,15 +36,9 @@ commit-spec 𝓤 H 𝓜 𝓖 𝓡 =
     entered 𝓤 H (tripleOf 𝓤 H (𝓖 .A) f.signature (f.spec 𝓤 H (𝓖 .A) (𝓜 .mem) (𝓡 .run)))
     (tables 𝓤 H 𝓜 𝓡 code.env .C) (tables 𝓤 H 𝓜 𝓡 code.env .Λ) #store·commit code.function (code.unfolded 𝓤 H 𝓜 𝓡)
     (meets shape 𝓤 H (𝓖 .A) (givenOf 𝓤 H 𝓜 𝓖) (tablesOf 𝓤 H 𝓜 (tables 𝓤 H 𝓜 𝓡 code.env))
-    ((cited 𝓤 H (Asks asks 𝓤 H (𝓖 .A)) 𝓜 𝓡 code.env ask.name ask.routine code.calls-partition-sound·ask
+    ((cited 𝓤 H (Weighs weighsCommit 𝓤 H (𝓖 .A)) 𝓜 𝓡 code.env ask.name ask.routine code.calls-store·books·ask-commit
       (ask-thm.met 𝓤 H 𝓜 𝓖 𝓡)),
-    (cited 𝓤 H (Rests asks 𝓤 H (𝓖 .A)) 𝓜 𝓡 code.env rest.name rest.routine code.calls-partition-sound·rest-ok
+    (cited 𝓤 H (Founds weighsCommit 𝓤 H (𝓖 .A)) 𝓜 𝓡 code.env rest.name rest.routine code.calls-partition-sound·rest-of
       (rest-thm.met 𝓤 H 𝓜 𝓖 𝓡)))
-    (cited 𝓤 H (Core shape 𝓤 H (𝓖 .A)) 𝓜 𝓡 code.env core.name core.routine code.calls-txn-close·commit
-      (core-thm.met 𝓤 H 𝓜 𝓖 𝓡))
-    ((cited 𝓤 H (Makes landings 𝓤 H (𝓖 .A)) 𝓜 𝓡 code.env new.name new.routine code.calls-store·books·landing
-      (new-thm.met 𝓤 H 𝓜 𝓖 𝓡)),
-    (cited 𝓤 H (Weighs landings 𝓤 H (𝓖 .A)) 𝓜 𝓡 code.env land.name land.routine code.calls-totals·landing·land
-      (land-thm.met 𝓤 H 𝓜 𝓖 𝓡)),
-    (cited 𝓤 H (Answers landings 𝓤 H (𝓖 .A)) 𝓜 𝓡 code.env landed.name landed.routine code.calls-store·books·landed
-      (landed-thm.met 𝓤 H 𝓜 𝓖 𝓡))))
+    (cited 𝓤 H (Core shape 𝓤 H (𝓖 .A)) 𝓜 𝓡 code.env core.name core.routine code.calls-store·books·commit-core
+      (core-thm.met 𝓤 H 𝓜 𝓖 𝓡)))

@@ -5,28 +5,21 @@ use denote.Triple.Spec.{tripleOf}
 use denote.Triple.Table.{entered, cited}
 use Rattle.rules.specs.Answers.{accepted}
 use Rattle.rules.specs.Step.{step, rollback}
-use Rattle.store.specs.Kept.{storeOf, Left, rollBackKept}
+use Rattle.store.specs.Kept.{storeOf, Left, rollBackKept, restKept}
 use Rattle.store.specs.Done.{doneRollBack}
-use Rattle.shapes.proofs.Core.{Asks, Rests}
-use Rattle.shapes.proofs.Land.{Makes, Weighs, Answers}
+use Rattle.shapes.proofs.Core.{Weighs, Founds}
 use Rattle.shapes.proofs.Roll.{Roll, Core, Goes, Rolled, Fin, meets}
-use Rattle.partition_sound.proofs.ask.Symbol as ask
-use Rattle.partition_sound.proofs.ask.Met as ask-thm
-use Rattle.partition_sound.proofs.rest_ok.Symbol as rest
-use Rattle.partition_sound.proofs.rest_ok.Met as rest-thm
-use Rattle.totals.proofs.landing.land.Symbol as land
-use Rattle.totals.proofs.landing.land.Met as land-thm
+use Rattle.partition_sound.proofs.rest_of.Symbol as rest
+use Rattle.partition_sound.proofs.rest_of.Met as rest-thm
 use Rattle.undo.proofs.lots.roll_lots.Symbol as roll
 use Rattle.undo.proofs.lots.roll_lots.Met as roll-thm
-use Rattle.store.proofs.Types.{kept, asks, landingsWithout}
+use Rattle.store.proofs.Types.{kept, weighsRollBack}
 use Rattle.store.proofs.Laws.Write.{state-8, totals-8}
 use Rattle.store.proofs.Laws.RollBack.{Rolls, roll-back-left}
-use Rattle.txn_close.proofs.roll_back.Symbol as core
-use Rattle.txn_close.proofs.roll_back.Met as core-thm
-use Rattle.store.proofs.books.landing_without.Symbol as new
-use Rattle.store.proofs.books.landing_without.Met as new-thm
-use Rattle.store.proofs.books.landed.Symbol as landed
-use Rattle.store.proofs.books.landed.Met as landed-thm
+use Rattle.store.proofs.books.ask_roll_back.Symbol as ask
+use Rattle.store.proofs.books.ask_roll_back.Met as ask-thm
+use Rattle.store.proofs.books.roll_back_core.Symbol as core
+use Rattle.store.proofs.books.roll_back_core.Met as core-thm
 use Rattle.store.proofs.books.goes_on.Symbol as goes
 use Rattle.store.proofs.books.goes_on.Met as goes-thm
 use Rattle.store.proofs.done.roll_back_done.Symbol as fin
@@ -37,9 +30,9 @@ use Rattle.store.proofs.roll_back.Statement as stated
 use Rattle.store.proofs.roll_back.Code as code
 
 abbrev shape : Roll
-shape = record { asks = asks; plan = kept; answer = kept; lands = landingsWithout;
+shape = record { weighs = weighsRollBack; plan = kept; answer = kept;
   core = core.name; goes = goes.name; roll = roll.name; fin = fin.name;
-  planOf = rollBackKept;
+  planOf = λ s r i. restKept (rollBackKept s (r .ok) i) r;
   goOf = λ w. accepted (w .answer);
   rolls = Rolls;
   answerOf = doneRollBack;
@@ -52,18 +45,12 @@ roll-back-spec 𝓤 H 𝓜 𝓖 𝓡 =
     entered 𝓤 H (tripleOf 𝓤 H (𝓖 .A) f.signature (f.spec 𝓤 H (𝓖 .A) (𝓜 .mem) (𝓡 .run)))
     (tables 𝓤 H 𝓜 𝓡 code.env .C) (tables 𝓤 H 𝓜 𝓡 code.env .Λ) #store·roll-back code.function (code.unfolded 𝓤 H 𝓜 𝓡)
     (meets shape 𝓤 H (𝓖 .A) (givenOf 𝓤 H 𝓜 𝓖) (tablesOf 𝓤 H 𝓜 (tables 𝓤 H 𝓜 𝓡 code.env))
-    (cited 𝓤 H (Asks asks 𝓤 H (𝓖 .A)) 𝓜 𝓡 code.env ask.name ask.routine code.calls-partition-sound·ask
-    (ask-thm.met 𝓤 H 𝓜 𝓖 𝓡))
-    (cited 𝓤 H (Rests asks 𝓤 H (𝓖 .A)) 𝓜 𝓡 code.env rest.name rest.routine code.calls-partition-sound·rest-ok
-    (rest-thm.met 𝓤 H 𝓜 𝓖 𝓡))
-    (cited 𝓤 H (Core shape 𝓤 H (𝓖 .A)) 𝓜 𝓡 code.env core.name core.routine code.calls-txn-close·roll-back
+    (cited 𝓤 H (Weighs weighsRollBack 𝓤 H (𝓖 .A)) 𝓜 𝓡 code.env ask.name ask.routine
+    code.calls-store·books·ask-roll-back (ask-thm.met 𝓤 H 𝓜 𝓖 𝓡))
+    (cited 𝓤 H (Founds weighsRollBack 𝓤 H (𝓖 .A)) 𝓜 𝓡 code.env rest.name rest.routine
+    code.calls-partition-sound·rest-of (rest-thm.met 𝓤 H 𝓜 𝓖 𝓡))
+    (cited 𝓤 H (Core shape 𝓤 H (𝓖 .A)) 𝓜 𝓡 code.env core.name core.routine code.calls-store·books·roll-back-core
     (core-thm.met 𝓤 H 𝓜 𝓖 𝓡))
-    ((cited 𝓤 H (Makes landingsWithout 𝓤 H (𝓖 .A)) 𝓜 𝓡 code.env new.name new.routine
-    code.calls-store·books·landing-without (new-thm.met 𝓤 H 𝓜 𝓖 𝓡)),
-    (cited 𝓤 H (Weighs landingsWithout 𝓤 H (𝓖 .A)) 𝓜 𝓡 code.env land.name land.routine code.calls-totals·landing·land
-    (land-thm.met 𝓤 H 𝓜 𝓖 𝓡)),
-    (cited 𝓤 H (Answers landingsWithout 𝓤 H (𝓖 .A)) 𝓜 𝓡 code.env landed.name landed.routine
-    code.calls-store·books·landed (landed-thm.met 𝓤 H 𝓜 𝓖 𝓡)))
     (cited 𝓤 H (Goes shape 𝓤 H (𝓖 .A)) 𝓜 𝓡 code.env goes.name goes.routine code.calls-store·books·goes-on
     (goes-thm.met 𝓤 H 𝓜 𝓖 𝓡))
     (cited 𝓤 H (Rolled shape 𝓤 H (𝓖 .A)) 𝓜 𝓡 code.env roll.name roll.routine code.calls-undo·lots·roll-lots

@@ -1,5 +1,5 @@
 -- One partition (01: lot) of a sound store among the lent entries and rows: the passes over its entries weigh what is
--- shown of it. Definitions: specs/Places.antt, specs/Landing.antt.
+-- shown of it, and what lands. Definitions: specs/Places.antt, specs/Reach.antt.
 -- In order: where it lies, a pass over its entries, what it weighs.
 -- Assumes nothing.
 use mathlib.Core.Path.{_≡_, ap, _∙_}
@@ -19,11 +19,11 @@ use Rattle.rules.specs.declared.Partition.{Partition}
 use Rattle.lent.specs.Shapes.{turned}
 use Rattle.lent.proofs.Turned.{turned-part}
 use Rattle.totals.specs.Places.{inPlace, fromOf, toOf}
-use Rattle.totals.specs.Reach.{inReach, noTop, topTurn}
+use Rattle.totals.specs.Reach.{inReach, noTop, topTurn, cutOf, cutsOf}
 use Rattle.totals.specs.Weighed.{noTally, closedOf, tallyTurn}
-use Rattle.totals.specs.Landing.{landCut}
 use Rattle.totals.specs.declared.Reach.{Reach}
-use Rattle.totals.proofs.Laws.Weighs.{weighs}
+use Rattle.totals.specs.declared.Top.{Top}
+use Rattle.totals.proofs.Laws.Weighs.{weighs, weighs-more}
 
 -- a partition whose entries lie among those lent
 pub record Placed (es : List Entry) (q : Partition) : Type 0 where
@@ -67,9 +67,21 @@ module _ (es : List Entry) (rows : List ℕ) (q : Partition) (L : Lies es rows q
   abbrev ss : List Span
   ss = spans 0 own (part (rowsMax * q .area) (q .rows) rows)
 
-  -- what is shown of the epochs in reach
-  pub lot-weighs : (r : Reach) → let c = landCut r q (foldl (topTurn r) noTop own) in
-      closedOf rows c (foldl (tallyTurn rows c) noTally own) ≡ weightBy (inReach r) ss
-  lot-weighs r = let i = L .placed .inside in let f = L .fits in let l = L .rows-length in
+  -- its greatest clearing among some epochs
+  abbrev pub topOf : Reach → Top
+  topOf r = foldl (topTurn r) noTop own
+
+  -- what is shown of the epochs in reach, whatever lands
+  pub lot-weighs : (r lands : Reach) (t : Top) → let c = cutsOf q r (topOf r) lands t in
+      closedOf rows (c .shown .base) (foldl (tallyTurn rows c) noTally own) ≡ weightBy (inReach r) ss
+  lot-weighs r lands t = let i = L .placed .inside in let f = L .fits in let l = L .rows-length in
       rw (lt-ltb (q .area) areasMax i)
-      (weighs r own rows (rowsMax * q .area) (q .rows) f (omega arith) (L .ends))
+      (weighs r (cutOf lands t (rowsMax * q .area)) own rows (rowsMax * q .area) (q .rows) f (omega arith) (L .ends))
+
+  -- what is shown of those that land, above the others
+  pub lot-more : (r lands : Reach) (t : Top) → r .high ≤ lands .over → let c = cutsOf q r t lands (topOf lands) in
+      foldl (tallyTurn rows c) noTally own .more ≡ weightBy (inReach lands) ss
+  lot-more r lands t h = let i = L .placed .inside in let f = L .fits in let l = L .rows-length in
+      rw (lt-ltb (q .area) areasMax i)
+      (weighs-more lands (cutOf r t (rowsMax * q .area)) own rows (rowsMax * q .area) (q .rows) f (omega arith)
+        (L .ends) h)

@@ -1,6 +1,6 @@
 -- The pass over the entries of a sound partition weighs what a reader is shown (02 (iii)). Definitions:
 -- specs/Reach.antt, specs/Weighed.antt; rules/specs/Hides.antt, rules/specs/Weight.antt.
--- In order: the rows that the greatest clearing leaves; weighs.
+-- In order: the rows that the greatest clearing leaves; the sum of these; weighs, weighs-more.
 -- Elsewhere: the pass as a sum (Laws/Tallied.antt), the greatest clearing (Laws/Clearing.antt).
 -- Assumes nothing.
 use mathlib.Core.Path.{_≡_, refl, sym, _∙_, ap}
@@ -12,9 +12,9 @@ use native.Mathlib.Omega.{arith}
 use native.Mathlib.Nat.{zero-add}
 use lib.Dec.{ltb, leb, eqb}
 use lib.ListN.{length, take, drop}
-use borrow.Author.Tests.{ltb-true, ltb-false, eqb-true, eqb-false, lt-ltb, le-ltb, le-leb, lt-leb, eq-eqb, ne-eqb}
+use borrow.Author.Tests.{ltb-true, ltb-false, leb-true, lt-ltb, le-ltb, le-leb, lt-leb, eq-eqb, ne-eqb}
 use Rattle.lists.specs.Lists.{part, anyOf}
-use Rattle.lists.proofs.Laws.Bools.{split, and-false, and-true}
+use Rattle.lists.proofs.Laws.Bools.{split, and-right, and-false, and-true}
 use Rattle.lists.proofs.Laws.Filter.{none-in, none-of}
 use Rattle.rules.specs.Limits.{rowsMax}
 use Rattle.rules.specs.Span.{Span, isDelete, spans}
@@ -28,9 +28,11 @@ use Rattle.totals.specs.Reach.{inReach, noTop, topTurn, farthest, cutOf,
 use Rattle.totals.specs.Weighed.{noTally, closedOf, tallyTurn}
 use Rattle.totals.specs.declared.Reach.{Reach}
 use Rattle.totals.specs.declared.Top.{Top}
+use Rattle.totals.specs.declared.Cut.{Cut}
 use Rattle.totals.proofs.Laws.Clearing.{hides, reach-over, reach-last, topOf, Reached, none-greater}
 use Rattle.totals.proofs.Laws.Clearing.{top-greatest, top-reached, stands-first, edge-turn}
 use Rattle.totals.proofs.Laws.Tallied.{weight-append, rowsFrom, rows-take, rows-drop, shownSum, tally-sum}
+use Rattle.totals.proofs.Laws.Tallied.{more-sum}
 
 -- ---- the rows that the greatest clearing leaves
 
@@ -145,15 +147,48 @@ module _ (r : Reach) (rs : List ℕ) (base n : ℕ) (few : n ≤ rowsMax) (all :
       sums p q = omega arith
 
 -- of a sound partition: n rows from base on, and its entries
-pub weighs : (r : Reach) (es : List Entry) (rs : List ℕ) (base n : ℕ) → n ≤ rowsMax → base + n ≤ length rs
-    → endsOk n 0 es ≡ true
-    → let c = cutOf r (foldl (topTurn r) noTop es) base in
-      closedOf rs c (foldl (tallyTurn rs c) noTally es) ≡ weightBy (inReach r) (spans 0 es (part base n rs))
-unfolding weightBy shown closedOf
-weighs r es rs base n few fits ok =
-    let u = foldl (topTurn r) noTop es in let ws = part base n rs in
-    let y : base + 0 ≡ base = omega arith in let z : n - 0 ≡ n = omega arith in
-    tally-sum rs (cutOf r u base) n few fits es noTally (record { ends = omega arith; sums = omega arith }) ok
-    ∙ (zero-add (shownSum rs (cutOf r u base) 0 es)
-    ∙ sym (rw (y, z) at (shown-sum r rs base n few (spans 0 es ws) u (top-reached r es noTop (inl refl))
-        (top-greatest r 0 es ws) 0 es noTop ok (omega arith) refl)))
+module _ (r : Reach) (d : Cut) (es : List Entry) (rs : List ℕ) (base n : ℕ) (few : n ≤ rowsMax)
+    (fits : base + n ≤ length rs) (ok : endsOk n 0 es ≡ true) where
+  abbrev u : Top
+  u = foldl (topTurn r) noTop es
+
+  abbrev ss : List Span
+  ss = spans 0 es (part base n rs)
+
+  sum-weighs : shownSum rs (cutOf r u base) 0 es ≡ weightBy (inReach r) ss
+  unfolding weightBy shown
+  sum-weighs = let y : base + 0 ≡ base = omega arith in let z : n - 0 ≡ n = omega arith in
+      sym (rw (y, z) at (shown-sum r rs base n few ss u (top-reached r es noTop (inl refl))
+        (top-greatest r 0 es (part base n rs)) 0 es noTop ok (omega arith) refl))
+
+  -- whatever lands beside it
+  pub weighs : closedOf rs base (foldl (tallyTurn rs (record { shown = cutOf r u base; lands = d })) noTally es)
+      ≡ weightBy (inReach r) ss
+  unfolding closedOf
+  weighs = tally-sum rs (record { shown = cutOf r u base; lands = d }) n few fits es noTally
+        (record { ends = omega arith; sums = omega arith }) ok
+      ∙ (zero-add (shownSum rs (cutOf r u base) 0 es) ∙ sum-weighs)
+
+  -- what a cut shows is above the epochs before
+  above : (k j : ℕ) → k ≤ n → shows (cutOf r u base) k j ≡ true → r .over < j
+  unfolding shows
+  above k j l y = ⊎-elim
+    (λ z. ltb-true (r .over) j (and-right (leb j (r .high) && not (eqb j (r .gone))) (ltb (r .over) j)
+      (rw (eq-eqb (u .epoch) 0 z, lt-ltb k farthest (omega arith)) at y)))
+    (λ i. let g = reach-over r (u .epoch) i in
+          let v = and-right (leb j (r .high) && not (eqb j (r .gone))) (cond (ltb k (u .edge)) (ltb (u .epoch) j)
+            (leb (u .epoch) j)) (rw (ne-eqb (u .epoch) 0 (λ q. omega arith)) at y) in
+          split (ltb k (u .edge))
+            (λ a. let w = ltb-true (u .epoch) j (rw a at v) in omega arith)
+            (λ a. let w = leb-true (u .epoch) j (rw a at v) in omega arith))
+    (top-reached r es noTop (inl refl))
+
+  other : d .high ≤ r .over → (k j : ℕ) → k ≤ n → shows (cutOf r u base) k j ≡ true → shows d k j ≡ false
+  unfolding shows
+  other h k j l y = let g = above k j l y in rw (lt-leb j (d .high) (omega arith))
+
+  pub weighs-more : d .high ≤ r .over
+      → foldl (tallyTurn rs (record { shown = d; lands = cutOf r u base })) noTally es .more ≡ weightBy (inReach r) ss
+  weighs-more h = more-sum rs (record { shown = d; lands = cutOf r u base }) n few fits (other h) es noTally
+        (omega arith) ok
+      ∙ (zero-add (shownSum rs (cutOf r u base) 0 es) ∙ sum-weighs)

@@ -11,4 +11,6 @@ step-spec =
     (λ c κs. search needs)
     (λ c. rw (said (c .before .is-shown .ensures) (c .if1 .taken)))
     (λ c κs. search needs)
-    (λ c. rw (said (c .before .before .is-shown .ensures) (c .before .if1 .left), c .closed .ensures)))
+    (λ c κs. search needs)
+    (λ c. let s = c .before .before in
+      rw (said (s .before .is-shown .ensures) (s .if1 .left), c .before .closed .ensures, c .landed .ensures)))

@@ -7,7 +7,7 @@ use Rattle.lent.proofs.read_entry.Symbol as read-entry
 use Rattle.lent.proofs.read_entry.Met as read-entry-thm
 use Rattle.shapes.proofs.Folds.{ReadEntry, Step, meets}
 use Rattle.totals.specs.Weighed.{tallyTurn}
-use Rattle.totals.proofs.Types.{cut, tally}
+use Rattle.totals.proofs.Types.{cuts, tally}
 use Rattle.totals.proofs.shown.step.Symbol as step
 use Rattle.totals.proofs.shown.step.Met as step-thm
 use Rattle.totals.proofs.shown.tally.Key.{name as #tally}
@@ -20,9 +20,9 @@ unfolding code.routine tablesOf
 tally-spec 𝓤 H 𝓜 𝓖 𝓡 =
     entered 𝓤 H (tripleOf 𝓤 H (𝓖 .A) f.signature (f.spec 𝓤 H (𝓖 .A) (𝓜 .mem) (𝓡 .run)))
     (tables 𝓤 H 𝓜 𝓡 code.env .C) (tables 𝓤 H 𝓜 𝓡 code.env .Λ) #tally code.function (code.unfolded 𝓤 H 𝓜 𝓡)
-    (meets cut tally step.name tallyTurn 𝓤 H (𝓖 .A) (givenOf 𝓤 H 𝓜 𝓖)
+    (meets cuts tally step.name tallyTurn 𝓤 H (𝓖 .A) (givenOf 𝓤 H 𝓜 𝓖)
       (tablesOf 𝓤 H 𝓜 (tables 𝓤 H 𝓜 𝓡 code.env))
     (cited 𝓤 H (ReadEntry 𝓤 H (𝓖 .A)) 𝓜 𝓡 code.env read-entry.name read-entry.routine code.calls-lent·read-entry
       (read-entry-thm.met 𝓤 H 𝓜 𝓖 𝓡))
-    (cited 𝓤 H (Step cut tally tallyTurn 𝓤 H (𝓖 .A)) 𝓜 𝓡 code.env step.name step.routine
+    (cited 𝓤 H (Step cuts tally tallyTurn 𝓤 H (𝓖 .A)) 𝓜 𝓡 code.env step.name step.routine
       code.calls-totals·shown·step (step-thm.met 𝓤 H 𝓜 𝓖 𝓡)))

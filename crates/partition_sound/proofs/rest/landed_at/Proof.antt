@@ -11,30 +11,29 @@ use borrow.Kind.Array.{eInt, good-length}
 use borrow.Author.Needs.{needs}
 use borrow.Author.Tests.{eq-eqb, ne-eqb}
 use Rattle.rules.specs.Limits.{partitionsMax}
-use Rattle.totals.specs.Landing.{landed}
-use Rattle.totals.proofs.landing.landed_at.Statement.{statement}
-use Rattle.totals.proofs.landing.landed_at.Tie as tie
+use Rattle.partition_sound.specs.Rest.{landedAt}
+use Rattle.partition_sound.proofs.rest.landed_at.Statement.{statement}
+use Rattle.partition_sound.proofs.rest.landed_at.Tie as tie
 
 returns : tie.Need-returns
-unfolding landed
-returns c = let s = c .before .before .before .before .before .before .args in let j = c .before .if2 in
-    let b : j .before ≡ cond (eqb (s .t .epoch) 0) (getD (s .totals) (s .p) 0) 0 = ⊎-elim
-          (λ w. rw (w .1, eq-eqb (s .t .epoch) 0 (w .0 .taken)))
-          (λ w. rw (w .1, ne-eqb (s .t .epoch) 0 (w .0 .left)))
+unfolding landedAt
+returns c = let s = c .before .before .before .before .args in let j = c .before .if2 in
+    let b : j .before ≡ cond (eqb (s .newest .epoch) 0) (getD (s .totals) (s .p) 0) 0 = ⊎-elim
+          (λ w. rw (w .1, eq-eqb (s .newest .epoch) 0 (w .0 .taken)))
+          (λ w. rw (w .1, ne-eqb (s .newest .epoch) 0 (w .0 .left)))
           (j .came) in
-    rw (c .add .ensures, b, c .before .before .before .closed .ensures)
+    rw (c .add .ensures, b)
 
 returns-2 : tie.Need-returns-2
-unfolding landed
-returns-2 c = let u = c .before .before in let s = u .args in
-    let n : length (s .totals) ≡ partitionsMax = good-length (eInt w64) 8 (s .totals) _ (u .good .1 .0) in
+unfolding landedAt
+returns-2 c = let u = c .before in let s = u .args in
+    let n : length (s .totals) ≡ partitionsMax = good-length (eInt w64) 8 (s .totals) _ (u .good .0) in
     sym (set-out (s .totals) (s .p) _ (omega arith))
 
 pub landed-at-spec : {M : Type 1} → statement M
 landed-at-spec =
     tie.close
     (tie.spec
-    (λ c κs. search needs)
     (λ c. search needs)
     (λ c. search needs)
     (λ c κs. search needs)
