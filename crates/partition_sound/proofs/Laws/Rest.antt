@@ -1,6 +1,6 @@
 -- The pass over all partitions, as the code makes it turn by turn, finds *sound* but for the manager.
--- In order: a partition that is well; the greatest clearing; what a page at LCE weighs; one partition, what it weighs
--- and what lands; those below p; all.
+-- In order: a partition that is well; what a page at LCE weighs; one partition, what it weighs and what lands; those
+-- below p; all.
 -- Definitions: specs/Rest.antt, specs/Asked.antt.
 -- Assumes nothing.
 use mathlib.Core.Path.{_≡_, refl, sym, ap, subst, _∙_}
@@ -10,7 +10,7 @@ use Prim.Native.Nat.{ℕ, zero, suc, _*_, _-_, _≤_, _<_}
 use native.Mathlib.Omega.{arith}
 use lib.ListN.{length, take, drop, getD}
 use lib.Dec.{ltb, leb, eqb}
-use borrow.Author.Tests.{leb-true, ltb-true, ltb-false, eqb-true, le-leb, lt-leb, lt-ltb, ne-eqb}
+use borrow.Author.Tests.{leb-true, ltb-true, ltb-false, eqb-true, le-leb, lt-ltb, ne-eqb}
 use Rattle.lists.specs.Lists.{allOf, anyOf, part}
 use Rattle.lists.proofs.Laws.All.{All, All-imp, All-every, All-allOf, allOf-All, All-getD, getD-All, All-anyOf}
 use Rattle.lists.proofs.Laws.Bools.{split, split-eq, both-ways, and-left, and-right, and-both, and-true, and-false}
@@ -36,9 +36,9 @@ use Rattle.totals.specs.Places.{fromOf, toOf}
 use Rattle.totals.specs.Reach.{inReach, noTop, topTurn, cutsOf}
 use Rattle.totals.specs.Weighed.{noTally, closedOf, tallyTurn}
 use Rattle.totals.specs.declared.Reach.{Reach}
-use Rattle.totals.specs.declared.Top.{Top}
 use Rattle.totals.specs.declared.Cuts.{Cuts}
 use Rattle.totals.specs.declared.Tally.{Tally}
+use Rattle.totals.proofs.Laws.Clearing.{reach-none, top-still}
 use Rattle.totals.proofs.Laws.Lot.{Placed, Lies, lot-turned, lot-weighs}
 use Rattle.partition_sound.specs.Sound.{entryOkBy, epochOkBy, partitionOkBy, beforeFirst, chained}
 use Rattle.partition_sound.specs.Asked.{lengthsAre, spansOf, totalsAre, restAsked}
@@ -70,19 +70,6 @@ parts-of c js es q h =
       low = All-imp _ _ (λ d g. leb-true 1 (d .epoch) (and-left _ _ (and-left _ _ (and-right (leb (d .mark) 1) _
           g)))) own
         (All-allOf (entryOkBy c js) own (and-right (x && y && e) o xyeo)) }
-
--- no clearing in reach, no greatest one
-top-still : (r : Reach) (t : Top) (es : List Entry) → All (λ e. eqb (e .mark) 1 && inReach r (e .epoch) ≡ false) es
-    → foldl (topTurn r) t es ≡ t
-top-still r t [] h = refl
-top-still r t (e ∷ es) h = rw (h .0) (top-still r t es (h .1))
-
--- where nothing lands no epoch is in reach
-reach-none : (r : Reach) → r .high ≡ r .over → (j : ℕ) → inReach r j ≡ false
-unfolding inReach
-reach-none r e j = split (ltb (r .over) j)
-  (λ t. let g = ltb-true (r .over) j t in rw (t, lt-leb j (r .high) (omega arith)))
-  (λ f. rw f)
 
 -- the spans' epochs are the entries'
 epochs-spans : (n : ℕ) (es : List Entry) (ws : List ℕ) → All (λ e. 1 ≤ e .epoch) es

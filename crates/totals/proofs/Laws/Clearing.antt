@@ -9,8 +9,10 @@ use Prim.Native.Nat.{ℕ, _-_, _≤_, _<_}
 use native.Mathlib.Omega.{arith}
 use lib.Dec.{ltb, leb, eqb}
 use lib.ListN.{take, drop}
-use borrow.Author.Tests.{ltb-true, ltb-false, leb-true, leb-false, eqb-true, eqb-false, lt-ltb, le-ltb, eq-eqb, ne-eqb}
+use borrow.Author.Tests.{ltb-true, ltb-false, leb-true, leb-false, eqb-true, eqb-false, lt-ltb, le-ltb, lt-leb, eq-eqb}
+use borrow.Author.Tests.{ne-eqb}
 use Rattle.lists.specs.Lists.{anyOf}
+use Rattle.lists.proofs.Laws.All.{All}
 use Rattle.lists.proofs.Laws.Bools.{split, and-left, and-right, and-assoc, or-right, or-false, or-false-right}
 use Rattle.lists.proofs.Laws.Filter.{anyOf-same}
 use Rattle.lists.proofs.Laws.Tests.{and-comm}
@@ -41,6 +43,13 @@ pub reach-last : (r : Reach) (j : ℕ) → inReach r j ≡ leb j (r .high) && no
 unfolding inReach
 reach-last r j = and-assoc (ltb (r .over) j) (leb j (r .high)) (not (eqb j (r .gone)))
     ∙ and-comm (ltb (r .over) j) (leb j (r .high) && not (eqb j (r .gone)))
+
+-- an empty reach
+pub reach-none : (r : Reach) → r .high ≡ r .over → (j : ℕ) → inReach r j ≡ false
+unfolding inReach
+reach-none r e j = split (ltb (r .over) j)
+  (λ t. let g = ltb-true (r .over) j t in rw (t, lt-leb j (r .high) (omega arith)))
+  (λ f. rw f)
 
 -- ---- the greatest
 
@@ -159,3 +168,9 @@ top-none r es ws = let t = foldl (topTurn r) noTop es in
     above s = split (inReach r (s .epoch))
       (λ y. let g = reach-over r (s .epoch) y in rw (y, lt-ltb 0 (s .epoch) (omega arith)))
       (λ f. rw f)
+
+-- with no clearing in reach the pass leaves what was
+pub top-still : (r : Reach) (t : Top) (es : List Entry) → All (λ e. eqb (e .mark) 1 && inReach r (e .epoch) ≡ false) es
+    → foldl (topTurn r) t es ≡ t
+top-still r t [] h = refl
+top-still r t (e ∷ es) h = rw (h .0) (top-still r t es (h .1))
