@@ -117,6 +117,13 @@ pub fn laden(count: u64, rows: usize) -> Store {
     store
 }
 
+/// The store with one more load begun.
+pub fn one_more(store: &Store) -> Store {
+    let mut store = store.clone();
+    run(&mut store, Call::Begin);
+    store
+}
+
 /// `count` different numbers from `low` to `high`, rising.
 fn rising(rng: &mut Rng, count: usize, low: u64, high: u64) -> Vec<u64> {
     let mut numbers = BTreeSet::new();

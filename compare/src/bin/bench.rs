@@ -4,7 +4,7 @@
 //! the session, that of the model in turn with that of the proved one, the cost of reading the clock included. The
 //! ratio is how many times as fast as the model the proved store is; the last line is the worst.
 
-use compare::prepared::{append, each_call, empty, laden, scan};
+use compare::prepared::{append, each_call, empty, laden, one_more, scan};
 use compare::{books_of, by_library, measured, numbers, told, Areas};
 use model::call::Call;
 use model::histories::{profile, Lines};
@@ -123,6 +123,7 @@ fn main() -> std::io::Result<()> {
     let short = laden(63, 8);
     calls("a full store, 64 short entries a lot", &short, &list, &mut worst);
     calls("the same, by its last load, of 30 deps", &short, &last, &mut worst);
+    calls("the same and one load more, of 31 deps", &one_more(&short), &[scan(Reader::Rw(36))], &mut worst);
     calls("a full store, 4 long entries a lot", &laden(3, 168), &list, &mut worst);
 
     let Some(mixed) = profile("mixed") else { return Ok(()) };
