@@ -1,3 +1,4 @@
 pub mod Look
+pub mod Categories
 pub mod Cases
 pub mod Edges
