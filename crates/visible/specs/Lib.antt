@@ -1,3 +1,4 @@
+pub mod Category
 pub mod View
 pub mod Flags
 pub mod Passes
