@@ -1,10 +1,10 @@
--- Which epochs a read-write transaction sees, case by case. 01 "Who sees a row". Definitions:
--- rules/specs/Sees.antt.
--- In order: its own epoch, later ones, earlier ones in its deps, other earlier ones; the deletes that it
--- applies, and those that any reader does.
+-- Which epochs a read-write transaction sees, by their order. 01 "Who sees a row". Definitions: rules/specs/Sees.antt;
+-- the four cases as tests: rules/proofs/Categories.antt.
+-- In order: its own epoch, later ones, earlier ones that are not in its deps; the deletes that it applies, and those
+-- that any reader does.
 -- Assumes nothing.
 use mathlib.Core.Path.{_≡_, refl, sym, _∙_}
-use mathlib.Core.Bool.{true, false, not}
+use mathlib.Core.Bool.{true, false}
 use mathlib.Core.List.{List}
 use Prim.Native.Nat.{ℕ, _<_}
 use native.Mathlib.Omega.{arith}
@@ -27,13 +27,9 @@ module _ (i : ℕ) (deps : List ℕ) (j : ℕ) where
   unfolding seesRw
   sees-later h = rw (ne-eqb j i (λ e. omega arith), le-ltb j i (omega arith))
 
-  -- of an earlier epoch the deps decide
-  pub sees-before : j < i → seesRw i deps j ≡ not (elem j deps)
-  unfolding seesRw
-  sees-before h = rw (ne-eqb j i (λ e. omega arith), lt-ltb j i h)
-
   pub sees-earlier : j < i → elem j deps ≡ false → seesRw i deps j ≡ true
-  sees-earlier h f = rw (sees-before h, f)
+  unfolding seesRw
+  sees-earlier h f = rw (ne-eqb j i (λ e. omega arith), lt-ltb j i h, f)
 
   -- it applies the deletes that it sees, as it sees nothing later
   pub applies-sees : appliesRw i deps j ≡ seesRw i deps j
