@@ -1,18 +1,20 @@
--- One partition's entries out of those lent, and the last of them. 01 "Lots".
--- In order: a partition by its number, its entries, its last entry. Laws: proofs/Laws/Load.antt (of 576 lent entries
--- the area is areaAt).
+-- One partition's entries out of those lent, all of them, and the last of a partition. 01 "Lots".
+-- In order: a partition by its number, its entries, all entries, its last entry. Laws: proofs/Laws/Load.antt (of 576
+-- lent entries the area is areaAt, and all are those lent).
 -- Assumes nothing.
 use mathlib.Core.Bool.{_||_, cond}
 use mathlib.Core.List.{List}
-use Prim.Native.Nat.{ℕ, zero, suc, _+_, _*_, _-_}
-use lib.ListN.{getD, set, replicate}
+use Prim.Native.Nat.{ℕ, _+_, _*_, _-_}
+use lib.ListN.{getD, replicate}
 use lib.Dec.{ltb, leb}
 use Rattle.rules.specs.Limits.{areasMax, entriesMax}
 use Rattle.rules.specs.Store.{noPartition}
 use Rattle.rules.specs.declared.Entry.{Entry}
 use Rattle.rules.specs.declared.Partition.{Partition}
 use Rattle.rules.specs.declared.Partitions.{Partitions}
-use Rattle.lent.specs.Entries.{none}
+use Rattle.lent.specs.Entries.{none, filled0}
+use Rattle.lent.specs.Shapes.{loaded}
+use Rattle.lent.specs.declared.Table.{Table}
 use Rattle.area.specs.Area.{baseOf}
 use Rattle.area.specs.declared.Area.{Area}
 
@@ -24,14 +26,14 @@ partitionIn ps p = getD (ps .at) p noPartition
 unfoldable pub noEntries : List Entry
 noEntries = replicate entriesMax none
 
--- entriesMax places, the first n of them filled from index base on
-unfoldable pub loaded : List Entry → ℕ → ℕ → List Entry
-loaded es base zero = noEntries
-loaded es base (suc n) = set (loaded es base n) n (getD es (base + n) none)
-
 unfoldable pub loadedArea : List Entry → Partitions → ℕ → Area
 loadedArea es ps p = record {
-  at = loaded es (baseOf entriesMax (partitionIn ps p .area)) entriesMax; count = partitionIn ps p .entries }
+  at = loaded noEntries es (baseOf entriesMax (partitionIn ps p .area)) entriesMax; count = partitionIn ps p .entries }
+
+-- ---- all entries
+
+unfoldable pub loadedTable : List Entry → Table
+loadedTable es = record { at = loaded filled0 es 0 (entriesMax * areasMax) }
 
 -- ---- its last entry
 

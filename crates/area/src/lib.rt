@@ -1,5 +1,6 @@
 // Areas (01 "Lots"): where the rows and the entries of each of the nine stand among those of all, and one area's
-// entries read out of those lent.
+// entries, or all, read out of those lent.
+use lent::Table;
 use lent::read_entry;
 use rules::Entry;
 use rules::Partition;
@@ -12,7 +13,8 @@ use rules::limits::ROWS_MAX;
 ghost use mathlib.Core.Path.{_≡_};
 ghost use Rattle.rules.specs.Limits.{rowsMax, entriesMax};
 ghost use Rattle.area.specs.Area.{baseOf, placeAt};
-ghost use Rattle.area.specs.Load.{partitionIn, noEntries, loadedArea, lastIndex, lastEntry};
+ghost use Rattle.area.specs.Load.{partitionIn, noEntries, loadedArea, loadedTable};
+ghost use Rattle.area.specs.Load.{lastIndex, lastEntry};
 
 // The entries of one partition (01: lot), those in use first.
 #[repr(C)]
@@ -113,6 +115,19 @@ pub fn load(entries: &[Entry], ps: Partitions, p: u64) -> Area
         i = i + 1;
     }
     to_area(a, q)
+}
+
+// All lent entries, blank where there are fewer than those of nine areas.
+pub fn load_all(entries: &[Entry]) -> Table
+    ensures { λ r. ⌜ r ≡ loadedTable (now (entries .entry)) ⌝ }
+{
+    let mut a = lent::blank();
+    let mut i = 0;
+    while i < ENTRIES_LENT {
+        a[i] = read_entry(entries, i);
+        i = i + 1;
+    }
+    lent::to_table(a)
 }
 
 // The index of the last entry of partition p, past the end where there is none or a number is out of range.

@@ -1,5 +1,5 @@
 -- The call of dispatch, with books and a command by value: rows are lent again, the batch is passed on, and the
--- entries and the bitmap are lent as the loans l₁ and l₄ say.
+-- entries and the bytes are lent as the loans l₁ and l₄ say.
 --     ordered, command     the type of a command, and its machine value
 --     AsMut        a loan that is passed as a `&mut`: written, local-written
 --     Turns        the four loans.        turn-call    the call
@@ -90,7 +90,7 @@ module _ (l₁ l₄ : Loan) (ℓ₂ : Lifetime) (x₂ x₃ : Lent u64) (room₂ 
     abbrev Rest : Fml
     Rest = owns (Cm.the-row ∷ []) (cm, tt) (command cm ∷ [], tt)
 
-    -- what is passed of the entries and of the bitmap, and what is said of them at the end
+    -- what is passed of the entries and of the bytes, and what is said of them at the end
     abbrev between : Fml → Fml → Mades Others → Fml
     between X Y g = fsep (K.the-row .own bk (books bk ∷ []))
         (fsep X (fsep (writing ℓ₂ x₂ room₂ .passed (g .0)) (fsep (copying x₃ .passed (g .1 .0)) (fsep Y Rest))))

@@ -20,18 +20,19 @@ pub struct Turned {
     pub table: Table,
 }
 
-// The batch is that of an append, and the bitmap that of a scan; other calls leave both alone.
+// The batch is that of an append. The bytes are the bitmap of a scan, the output of a save or the file of a recovery
+// (02 (v)), which only reads it; other calls leave both alone.
 pub fn dispatch(
     state: State,
     entries: &mut [Entry],
     rows: &mut [u64],
     batch: &[u64],
-    bitmap: &mut [u8],
+    bytes: &mut [u8],
     command: Command,
 ) -> Kept
-    ensures { λ r. ⌜ Did command (step (callOf command (now (batch .entry)) (now (bitmap .entry)))
+    ensures { λ r. ⌜ Did command (step (callOf command (now (batch .entry)) (now (bytes .entry)))
         (storeOf state (now (rows .entry)) (now (entries .entry)))) r (now (rows .exit)) (now (entries .exit))
-        (now (bitmap .entry)) (now (bitmap .exit)) ⌝ }
+        (now (bytes .entry)) (now (bytes .exit)) ⌝ }
 {
     match command {
         Command::Create { start } => store::create(state, entries, rows, start),
@@ -48,15 +49,20 @@ pub fn dispatch(
         Command::RollBack { txn } => store::roll_back(state, entries, rows, txn),
         Command::Scan { reader, partition } => match reader {
             Reader::Rw(txn) => Kept {
-                answer: store::scan_rw(state, entries, rows, bitmap, txn, partition),
+                answer: store::scan_rw(state, entries, rows, bytes, txn, partition),
                 state,
             },
             Reader::Ro(ticket) => Kept {
-                answer: store::scan_ro(state, entries, rows, bitmap, ticket, partition),
+                answer: store::scan_ro(state, entries, rows, bytes, ticket, partition),
                 state,
             },
         },
         Command::Purge { partition } => store::purge(state, entries, rows, partition),
+        Command::Save { epoch } => Kept {
+            answer: recovery::save(state, entries, rows, bytes, epoch),
+            state,
+        },
+        Command::Recover => recovery::recover(state, entries, rows, bytes),
     }
 }
 
@@ -86,14 +92,14 @@ pub fn turn(
     table: Table,
     rows: &mut [u64],
     batch: &[u64],
-    bitmap: &mut [u8],
+    bytes: &mut [u8],
     command: Command,
 ) -> Turned
-    ensures { λ r. ⌜ Did command (step (callOf command (now (batch .entry)) (now (bitmap .entry)))
+    ensures { λ r. ⌜ Did command (step (callOf command (now (batch .entry)) (now (bytes .entry)))
         (storeOf state (now (rows .entry)) (table .at))) (keptIn r) (now (rows .exit)) (r .table .at)
-        (now (bitmap .entry)) (now (bitmap .exit)) ⌝ }
+        (now (bytes .entry)) (now (bytes .exit)) ⌝ }
 {
     let mut entries = entries_in(table);
-    let kept = dispatch(state, &mut entries, rows, batch, bitmap, command);
+    let kept = dispatch(state, &mut entries, rows, batch, bytes, command);
     turned_of(kept, entries)
 }

@@ -27,6 +27,12 @@ const ROWS_MORE: usize = ROWS_LENT + 1;
 
 const BYTES: usize = 8;
 
+// Bytes of an output or of a file (02 (v)).
+const FILE_MAX: usize = 128;
+
+// With what a save answers before them.
+const SAVED_MAX: usize = FILE_MAX + 1;
+
 const STALE: u8 = 165;
 
 const ROW: u64 = 7;
@@ -219,6 +225,101 @@ fn purge(state: State, table: Table, rows: &mut [u64], lot: u64, out: &mut [u8])
     }
 }
 
+// The bytes that a save answers, and all that it was lent: the first n.
+fn print_save(reply: ReplyWords, file: [u8; FILE_MAX], n: usize, out: &mut [u8]) -> usize {
+    if FILE_MAX < n {
+        return 0;
+    }
+    let told = reply.values;
+    let mut values = [0u64; SAVED_MAX];
+    values[0] = told[0];
+    let mut i = 0;
+    while i < n {
+        values[i + 1] = wide(file[i]);
+        i += 1;
+    }
+    print_line(b'k', reply.number, &values[0..n + 1], out)
+}
+
+// A save at an epoch, lent so many stale bytes.
+fn save(
+    state: State,
+    table: Table,
+    rows: &mut [u64],
+    epoch: u64,
+    size: u64,
+    out: &mut [u8],
+) -> Said {
+    if (FILE_MAX as u64) < size {
+        return silent(state, table);
+    }
+    let n = size as usize;
+    let none = [0u64; 0];
+    let mut file = [STALE; FILE_MAX];
+    let command = Command::Save { epoch: epoch };
+    let done = dispatch::turn(state, table, rows, &none, &mut file[0..n], command);
+    let answer = done.answer;
+    let more = print_save(reply_of(answer), file, n, out);
+    let s = done.state;
+    let t = done.table;
+    Said {
+        state: s,
+        table: t,
+        written: more,
+    }
+}
+
+// Recovery of the first n bytes of a file.
+fn recover(
+    state: State,
+    table: Table,
+    rows: &mut [u64],
+    bytes: [u8; FILE_MAX],
+    n: usize,
+    out: &mut [u8],
+) -> Said {
+    if FILE_MAX < n {
+        return silent(state, table);
+    }
+    let none = [0u64; 0];
+    let mut file = bytes;
+    let command = Command::Recover;
+    let done = dispatch::turn(state, table, rows, &none, &mut file[0..n], command);
+    let answer = done.answer;
+    let more = print_reply(b'v', reply_of(answer), out);
+    let s = done.state;
+    let t = done.table;
+    Said {
+        state: s,
+        table: t,
+        written: more,
+    }
+}
+
+// The file that a line has: a count, and so many bytes.
+fn recover_line(
+    state: State,
+    table: Table,
+    rows: &mut [u64],
+    numbers: &[u64],
+    out: &mut [u8],
+) -> Said {
+    if numbers.len() < SAVED_MAX {
+        return silent(state, table);
+    }
+    if (FILE_MAX as u64) < numbers[0] {
+        return silent(state, table);
+    }
+    let n = numbers[0] as usize;
+    let mut file = [0u8; FILE_MAX];
+    let mut i = 0;
+    while i < n {
+        file[i] = (numbers[i + 1] % 256) as u8;
+        i += 1;
+    }
+    recover(state, table, rows, file, n, out)
+}
+
 // The call that a small letter names, by its first two numbers.
 fn command_of(letter: u8, a: u64, b: u64) -> Command {
     match letter {
@@ -322,6 +423,7 @@ fn edge(
             out,
         ),
         b'p' => purge(state, table, &mut rows[0..ROWS_LENT], a, out),
+        b'k' => save(state, table, &mut rows[0..ROWS_LENT], a, b, out),
         _ => calls(state, table, rows, letter, a, b, c, out),
     }
 }
@@ -405,6 +507,12 @@ fn say(
     }
     if !has_numbers(line, numbers) {
         return silent(state, table);
+    }
+    if rows.len() < ROWS_LENT {
+        return silent(state, table);
+    }
+    if letter == b'v' {
+        return recover_line(state, table, &mut rows[0..ROWS_LENT], numbers, out);
     }
     if numbers.len() < 4 {
         return silent(state, table);

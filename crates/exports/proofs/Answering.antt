@@ -1,5 +1,5 @@
 -- The three ways in which a call of the store is answered in words, each a Thin of the call that its values name.
---     replying     a call that answers with no part.        purging      a purge.        scanning     a scan
+--     replying     a call that answers with no part.        purging      a purge.        showing      a scan, a save
 -- Assumes nothing.
 use mathlib.Core.Path.{_≡_, refl, sym, subst}
 use mathlib.Core.Bool.{true, false}
@@ -20,7 +20,7 @@ use Rattle.exports.proofs.Thin.{Thin}
 use Rattle.exports.proofs.Types.{replied, seen}
 use Rattle.exports.proofs.words.reply_to.Symbol as reply-to
 use Rattle.exports.proofs.words.reply_to_purge.Symbol as reply-to-purge
-use Rattle.exports.proofs.words.reply_to_scan.Symbol as reply-to-scan
+use Rattle.exports.proofs.words.reply_to_read.Symbol as reply-to-read
 
 -- ---- what is said of the call that the values name
 
@@ -46,7 +46,7 @@ passes-on {A} {B} n c P R t a b es rs bs k h =
 
 -- ---- the three
 
--- the call may have a batch
+-- the call may have a batch or a file
 abbrev pub replying : (n : List Shown) → Name → (List ℕ → Of n Call) → Thin
 replying n callee c = record {
   given = n; told = kept; answer = replied; hands = false; callee = callee; fin = reply-to.name; answerOf = repliedOf;
@@ -65,9 +65,9 @@ purging callee = record {
   Ends = λ s es rs _ p r es′ rs′ _. Purges (step (purge p) (storeOf s rs es)) r rs′ es′;
   ends = λ s g es rs _ t r es′ rs′ _ left. purges (storeOf s rs es) (state-8 s _ g) r rs′ es′ (t .0) left }
 
-abbrev pub scanning : (n : List Shown) → Name → (List ℕ → Of n Call) → Thin
-scanning n callee c = record {
-  given = n; told = answer; answer = seen; hands = false; callee = callee; fin = reply-to-scan.name; answerOf = seenOf;
+abbrev pub showing : (n : List Shown) → Name → (List ℕ → Of n Call) → Thin
+showing n callee c = record {
+  given = n; told = answer; answer = seen; hands = false; callee = callee; fin = reply-to-read.name; answerOf = seenOf;
   Says = λ s es rs bs. named n (c bs) (λ call r _ _ bs′. Showed (step call (storeOf s rs es)) r bs′ (storeOf s rs es));
   Ends = λ s es rs bs. named n (c bs) (λ call r _ _ bs′. Shows (step call (storeOf s rs es)) r bs′ (storeOf s rs es));
   ends = λ s g es rs bs t r es′ rs′ bs′. passes-on n (c bs)

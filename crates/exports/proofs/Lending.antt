@@ -1,11 +1,11 @@
--- Functions of books, entries and rows, perhaps a batch or a bitmap, and values, by the kind of what they are lent
+-- Functions of books, entries and rows, perhaps a batch or bytes, and values, by the kind of what they are lent
 -- (shapes' Callers.antt): their contract, and the call of one from a function that is lent the same.
---     Extra            the batch or the bitmap, and its list and room
+--     Extra            the batch or the bytes, and its list and room
 --     localTypes       the types of the parameters
 --     Rel              what such a contract says.        ended, clauses, Does     the contract
 --     stayed, go-all   what a walk's end asks of the parameters
 --     lives, shares    the lifetimes and shares of what it is lent
---     loans, leftBy    what the call is lent, and entries, rows and bitmap after it.        Did     what it says then
+--     loans, leftBy    what the call is lent, and entries, rows and bytes after it.        Did     what it says then
 --     called           the call
 -- Assumes `Given`.
 use mathlib.Core.Path.{_≡_, refl, subst}
@@ -47,7 +47,7 @@ use Rattle.walks.proofs.Values.{drops, drops-go, values, keeps, quiet, tys, Of,
 use Rattle.walks.proofs.Values.{moved, fits-moved, vals-moved, own-values}
 use Rattle.walks.proofs.Shown.{Shown}
 use Rattle.shapes.proofs.Core.{state, books}
-use Rattle.shapes.proofs.Callers.{Kind, look, write, batch, bitmap}
+use Rattle.shapes.proofs.Callers.{Kind, look, write, batch, bitmap, file}
 
 -- ---- what is lent beside entries and rows
 
@@ -56,27 +56,31 @@ Extra look = Unit {0}
 Extra write = Unit {0}
 Extra batch = Lent u64
 Extra bitmap = Lent u8
+Extra file = Lent u8
 
 abbrev pub extraList : (k : Kind) → Extra k → List ℕ
 extraList look e = []
 extraList write e = []
 extraList batch e = e .list
 extraList bitmap e = e .list
+extraList file e = e .list
 
 abbrev pub ExtraRoom : (k : Kind) → Extra k → Type 0
 ExtraRoom look e = Unit {0}
 ExtraRoom write e = Unit {0}
 ExtraRoom batch e = Room u64 (length (e .list))
 ExtraRoom bitmap e = Room u8 (length (e .list))
+ExtraRoom file e = Room u8 (length (e .list))
 
 abbrev pub besides : (k : Kind) → Extra k → List Val
 besides look e = []
 besides write e = []
 besides batch e = held e ∷ []
 besides bitmap e = held e ∷ []
+besides file e = held e ∷ []
 
--- ---- a contract: of the books, entries, rows and batch or bitmap at entry, the values, the answer, and entries, rows
--- and bitmap at exit
+-- ---- a contract: of the books, entries, rows and batch or bytes at entry, the values, the answer, and entries, rows
+-- and bytes that it may write at exit
 
 abbrev pub Rel : List Shown → Shown → Type 1
 Rel n Q = State → List Entry → List ℕ → List ℕ → Of n (Q .row .Denot → List Entry → List ℕ → List ℕ → Type 0)
@@ -86,6 +90,7 @@ size look = 2
 size write = 2
 size batch = 3
 size bitmap = 3
+size file = 3
 
 abbrev pub params : (k : Kind) → List Shown → List (Slot (size k))
 params look n = plain (λ _. K.the-row) ∷ shrSliceOf (0 ∷ []) tt (plain (λ _. T.the-row))
@@ -96,12 +101,15 @@ params batch n = plain (λ _. K.the-row) ∷ mutSliceOf (0 ∷ []) tt (plain (λ
     ∷ mutSliceOf (1 ∷ []) tt (plain (λ _. u64)) ∷ shrSliceOf (2 ∷ []) tt (plain (λ _. u64)) ∷ values 3 n
 params bitmap n = plain (λ _. K.the-row) ∷ shrSliceOf (0 ∷ []) tt (plain (λ _. T.the-row))
     ∷ shrSliceOf (1 ∷ []) tt (plain (λ _. u64)) ∷ mutSliceOf (2 ∷ []) tt (plain (λ _. u8)) ∷ values 3 n
+params file n = plain (λ _. K.the-row) ∷ mutSliceOf (0 ∷ []) tt (plain (λ _. T.the-row))
+    ∷ mutSliceOf (1 ∷ []) tt (plain (λ _. u64)) ∷ shrSliceOf (2 ∷ []) tt (plain (λ _. u8)) ∷ values 3 n
 
 abbrev pub kept : (k : Kind) (n : List Shown) → Kepts (params k n)
 kept look n = (yes, (yes, (yes, keeps 2 n)))
 kept write n = (yes, (yes, (yes, keeps 2 n)))
 kept batch n = (yes, (yes, (yes, (yes, keeps 3 n))))
 kept bitmap n = (yes, (yes, (yes, (yes, keeps 3 n))))
+kept file n = (yes, (yes, (yes, (yes, keeps 3 n))))
 
 abbrev pub word : Ty
 word = tyInt w64
@@ -119,6 +127,8 @@ localTypes batch n = K′.mir ∷ sliceTy (tyRef (named 0) mut entry) ∷ sliceT
     ∷ sliceTy (tyRef (named 2) imm word) ∷ tys n
 localTypes bitmap n = K′.mir ∷ sliceTy (tyRef (named 0) imm entry) ∷ sliceTy (tyRef (named 1) imm word)
     ∷ sliceTy (tyRef (named 2) mut byte) ∷ tys n
+localTypes file n = K′.mir ∷ sliceTy (tyRef (named 0) mut entry) ∷ sliceTy (tyRef (named 1) mut word)
+    ∷ sliceTy (tyRef (named 2) imm byte) ∷ tys n
 
 abbrev pub ended : (k : Kind) → List Shown → Shown → Ended
 ended k n Q = record { signature = record { lifetimes = size k; outlives = []; params = params k n;
@@ -136,6 +146,9 @@ saying batch n Q F κs a r e =
 saying bitmap n Q F κs a r e =
     applied 3 κs n (F (a .0) (a .1 .0 .now) (a .1 .1 .0 .now) (a .1 .1 .1 .0 .now)) (a .1 .1 .1 .1) r (a .1 .0 .now)
     (a .1 .1 .0 .now) (e .1 .1 .1 .0 .now)
+saying file n Q F κs a r e =
+    applied 3 κs n (F (a .0) (a .1 .0 .now) (a .1 .1 .0 .now) (a .1 .1 .1 .0 .now)) (a .1 .1 .1 .1) r (e .1 .0 .now)
+    (e .1 .1 .0 .now) []
 
 abbrev pub clauses : {M : Type 1} (𝓤 : URA M) (k : Kind) (n : List Shown) (Q : Shown) → Rel n Q
     → Clauses 𝓤 (ended k n Q)
@@ -158,6 +171,9 @@ stayed batch n = (stay-dropped (plain (λ _. K.the-row)) yes, (stay-slice (0 ∷
 stayed bitmap n = (stay-dropped (plain (λ _. K.the-row)) yes, (stay-none-slice (0 ∷ []) tt (plain (λ _. T.the-row))
     yes, (stay-none-slice (1 ∷ []) tt (plain (λ _. u64)) yes, (stay-slice (2 ∷ []) tt (plain (λ _. u8)),
     drops (values 3 n) (keeps 3 n)))))
+stayed file n = (stay-dropped (plain (λ _. K.the-row)) yes, (stay-slice (0 ∷ []) tt (plain (λ _. T.the-row)),
+    (stay-slice (1 ∷ []) tt (plain (λ _. u64)), (stay-none-slice (2 ∷ []) tt (plain (λ _. u8)) yes,
+    drops (values 3 n) (keeps 3 n)))))
 
 pub go-all : {M : Type 1} (𝓤 : URA M) (H : Heap 𝓤) (A : Atoms 𝓤) (W : Given 𝓤 H A) (k : Kind) (n : List Shown)
     → AllGo 𝓤 H A W (size k) (params k n) (kept k n) (stayed k n)
@@ -176,6 +192,10 @@ go-all 𝓤 H A W bitmap n = (goes-dropped 𝓤 H A W 3 (plain (λ _. K.the-row)
     (goes-none-slice 𝓤 H A W 3 (0 ∷ []) tt (plain (λ _. T.the-row)) yes,
     (goes-none-slice 𝓤 H A W 3 (1 ∷ []) tt (plain (λ _. u64)) yes, (goes-slice 𝓤 H A W 3 2 tt (plain (λ _. u8)),
     drops-go 𝓤 H A W (values 3 n) (keeps 3 n) (quiet 3 n)))))
+go-all 𝓤 H A W file n = (goes-dropped 𝓤 H A W 3 (plain (λ _. K.the-row)) yes (λ κs x f. refl),
+    (goes-slice 𝓤 H A W 3 0 tt (plain (λ _. T.the-row)), (goes-slice 𝓤 H A W 3 1 tt (plain (λ _. u64)),
+    (goes-none-slice 𝓤 H A W 3 (2 ∷ []) tt (plain (λ _. u8)) yes,
+    drops-go 𝓤 H A W (values 3 n) (keeps 3 n) (quiet 3 n)))))
 
 -- the lifetimes and shares of what it is lent
 module _ (x₁ : Lent T.the-row) (x₂ : Lent u64) where
@@ -184,12 +204,14 @@ module _ (x₁ : Lent T.the-row) (x₂ : Lent u64) where
   lives write e = (x₁ .lft, (x₂ .lft, tt))
   lives batch e = (x₁ .lft, (x₂ .lft, (e .lft, tt)))
   lives bitmap e = (x₁ .lft, (x₂ .lft, (e .lft, tt)))
+  lives file e = (x₁ .lft, (x₂ .lft, (e .lft, tt)))
 
   abbrev pub shares : (k : Kind) → Extra k → Shares (size k)
   shares look e = (x₁ .share, (x₂ .share, tt))
   shares write e = (x₁ .share, (x₂ .share, tt))
   shares batch e = (x₁ .share, (x₂ .share, (e .share, tt)))
   shares bitmap e = (x₁ .share, (x₂ .share, (e .share, tt)))
+  shares file e = (x₁ .share, (x₂ .share, (e .share, tt)))
 
 -- values of a function's parameters are those of another's
 pub applied-moved : (k : ℕ) (κs : Lfts k) (l : ℕ) (ρs : Lfts l) {X : Type 1} (n : List Shown) (F : Of n X)
@@ -206,13 +228,15 @@ module _ (x₁ : Lent T.the-row) (x₂ : Lent u64) (r₁ : Room T.the-row (lengt
   loans write e r = writing (named 0) x₁ r₁ ∷ writing (named 1) x₂ r₂ ∷ []
   loans batch e r = writing (named 0) x₁ r₁ ∷ writing (named 1) x₂ r₂ ∷ copying e ∷ []
   loans bitmap e r = copying x₁ ∷ copying x₂ ∷ writing (named 2) e r ∷ []
+  loans file e r = writing (named 0) x₁ r₁ ∷ writing (named 1) x₂ r₂ ∷ copying e ∷ []
 
-  -- entries, rows and bitmap after the call
+  -- entries, rows and bytes after the call
   abbrev pub leftBy : (k : Kind) (e : Extra k) (r : ExtraRoom k e) → Endss (loans k e r) → List Entry × List ℕ × List ℕ
   leftBy look e r zs = (x₁ .list, x₂ .list, [])
   leftBy write e r zs = (zs .0, zs .1 .0, [])
   leftBy batch e r zs = (zs .0, zs .1 .0, [])
   leftBy bitmap e r zs = (x₁ .list, x₂ .list, zs .1 .1 .0)
+  leftBy file e r zs = (zs .0, zs .1 .0, [])
 
   module _ (n : List Shown) (Q : Shown) (F : Rel n Q) (s : State) (t : Nums 0 tt n) where
     abbrev pub Did : (k : Kind) (e : Extra k) (r : ExtraRoom k e) → Q .row .Denot → Endss (loans k e r) → Type 0
@@ -292,5 +316,17 @@ module _ (x₁ : Lent T.the-row) (x₂ : Lent u64) (r₁ : Room T.the-row (lengt
           (Q .tells)
           (record { clauses = clauses 𝓤 bitmap n Q F; met = known; free = λ _ _. (tt, id⊢ 𝓤 _) }) (Did bitmap e r)
           (λ g z ws. told 𝓤 3 (lfts ls g) (e .list) z (x₁ .list) (x₂ .list) (ws .1 .1 .1 .0))
+          (λ g i j. subst (λ (vs : List Val). Opds (Go {0}) W (i ∷ j ∷ Γ) E xs (books s ∷ held x₁ ∷ held x₂ ∷ held e
+            ∷ vs)) (vals-moved 0 tt 3 (lfts ls g) n t) (os i j)) next
+      called file e r by known os next = let ls = loans file e r in
+          loan-call ls (params file n) (kept file n) (Q .row)
+          (λ g. (s, (refOf (again x₁ 0 (g .0 .1)), (refOf (again x₂ 0 (g .1 .0 .1)), (refOf e, given 3 (lfts ls g))))))
+          (λ g. (books s ∷ [], (valOf x₁, (valOf x₂, (valOf e, spelt 3 (lfts ls g) n (given 3 (lfts ls g)))))))
+          (λ g ws. (ws .1 .0, (ws .1 .1 .0, (tt, tt)))) by (K.the-row .own s (books s ∷ []))
+          (state .makes 𝓤 H A W s _ gs)
+          (λ g. Owned 3 (lfts ls g)) (λ g. own-given 𝓤 H A W fit 3 (lfts ls g)) (λ g. refl) (λ g ws. (_, refl)) (Q .val)
+          (Q .tells)
+          (record { clauses = clauses 𝓤 file n Q F; met = known; free = λ _ _. (tt, id⊢ 𝓤 _) }) (Did file e r)
+          (λ g z ws. told 𝓤 3 (lfts ls g) (e .list) z (ws .1 .0) (ws .1 .1 .0) [])
           (λ g i j. subst (λ (vs : List Val). Opds (Go {0}) W (i ∷ j ∷ Γ) E xs (books s ∷ held x₁ ∷ held x₂ ∷ held e
             ∷ vs)) (vals-moved 0 tt 3 (lfts ls g) n t) (os i j)) next

@@ -42,7 +42,7 @@ use Rattle.walks.proofs.Values.{drops, lastly, no-fit, had, values, keeps, quie
 use Rattle.walks.proofs.Values.{spelt, vals, Fits, typed, moved, args-after}
 use Rattle.walks.proofs.Shown.{Shown}
 use Rattle.shapes.proofs.Core.{state, books}
-use Rattle.shapes.proofs.Callers.{Kind, look, write, batch, bitmap}
+use Rattle.shapes.proofs.Callers.{Kind, look, write, batch, bitmap, file}
 use Rattle.exports.proofs.Lending.{Extra, extraList, ExtraRoom, besides, Rel, size, params, word, byte, entry}
 use Rattle.exports.proofs.Lending.{localTypes, ended, clauses, stayed, lives, shares, loans, leftBy}
 
@@ -56,6 +56,7 @@ temps look = []
 temps write = areaTemps
 temps batch = areaTemps
 temps bitmap = tyRef erased mut byte ∷ sliceTy (tyRef erased mut byte) ∷ []
+temps file = areaTemps
 
 abbrev pub temp : Kind → List Shown → ℕ → ℕ
 temp k n i = suc (past (asLocals (localTypes k n)) i)
@@ -67,6 +68,8 @@ lending write n rest = reborrow 2 (temp write n 1) (temp write n 2) T′.mir
 lending batch n rest = reborrow 2 (temp batch n 1) (temp batch n 2) T′.mir
     (reborrow 3 (temp batch n 3) (temp batch n 4) word rest)
 lending bitmap n rest = reborrow 4 (temp bitmap n 1) (temp bitmap n 2) byte rest
+lending file n rest = reborrow 2 (temp file n 1) (temp file n 2) T′.mir
+    (reborrow 3 (temp file n 3) (temp file n 4) word rest)
 
 -- the values stand behind so many parameters
 abbrev pub behind : Kind → ℕ
@@ -74,12 +77,14 @@ behind look = 3
 behind write = 3
 behind batch = 4
 behind bitmap = 4
+behind file = 4
 
 abbrev pub operands : Kind → List Shown → List Operand
 operands look n = copy (place 2 []) ∷ copy (place 3 []) ∷ copies 3 n
 operands write n = copy (place (temp write n 2) []) ∷ copy (place (temp write n 4) []) ∷ copies 3 n
 operands batch n = copy (place (temp batch n 2) []) ∷ copy (place (temp batch n 4) []) ∷ copy (place 4 []) ∷ copies 4 n
 operands bitmap n = copy (place 2 []) ∷ copy (place 3 []) ∷ copy (place (temp bitmap n 2) []) ∷ copies 4 n
+operands file n = copy (place (temp file n 2) []) ∷ copy (place (temp file n 4) []) ∷ copy (place 4 []) ∷ copies 4 n
 
 -- ---- its parameters
 
@@ -90,6 +95,7 @@ module _ (x₁ : Lent T.the-row) (x₂ : Lent u64) (n : List Shown) (Z : Shown) 
   args write e t = (s, (refOf x₁, (refOf x₂, t)))
   args batch e t = (s, (refOf x₁, (refOf x₂, (refOf e, t))))
   args bitmap e t = (s, (refOf x₁, (refOf x₂, (refOf e, t))))
+  args file e t = (s, (refOf x₁, (refOf x₂, (refOf e, t))))
 
   abbrev pub argVals : (k : Kind) (e : Extra k) → Nums (size k) (lives x₁ x₂ k e) n
       → Vals (ended k n Z .signature) (lives x₁ x₂ k e)
@@ -97,12 +103,14 @@ module _ (x₁ : Lent T.the-row) (x₂ : Lent u64) (n : List Shown) (Z : Shown) 
   argVals write e t = (books s ∷ [], (valOf x₁, (valOf x₂, spelt 2 (lives x₁ x₂ write e) n t)))
   argVals batch e t = (books s ∷ [], (valOf x₁, (valOf x₂, (valOf e, spelt 3 (lives x₁ x₂ batch e) n t))))
   argVals bitmap e t = (books s ∷ [], (valOf x₁, (valOf x₂, (valOf e, spelt 3 (lives x₁ x₂ bitmap e) n t))))
+  argVals file e t = (books s ∷ [], (valOf x₁, (valOf x₂, (valOf e, spelt 3 (lives x₁ x₂ file e) n t))))
 
   behind-is : (k : Kind) (e : Extra k) → length (books s ∷ held x₁ ∷ held x₂ ∷ besides k e) ≡ behind k
   behind-is look e = refl
   behind-is write e = refl
   behind-is batch e = refl
   behind-is bitmap e = refl
+  behind-is file e = refl
 
   abbrev pub passed : (k : Kind) (e : Extra k) → Nums (size k) (lives x₁ x₂ k e) n → List Val
   passed k e t = books s ∷ held x₁ ∷ held x₂ ∷ (besides k e ++ vals (size k) (lives x₁ x₂ k e) n t)
@@ -117,6 +125,7 @@ module _ (x₁ : Lent T.the-row) (x₂ : Lent u64) (n : List Shown) (Z : Shown) 
   lentTo write e = areasLent
   lentTo batch e = areasLent
   lentTo bitmap e = holds (vptr (e .block) (e .start)) ∷ holds (held e) ∷ []
+  lentTo file e = areasLent
 
   module _ {M : Type 1} (𝓤 : URA M) (H : Heap 𝓤) (A : Atoms 𝓤) (W : Given 𝓤 H A)
       (gs : Is K.the-row s (books s ∷ [])) (r₁ : Room T.the-row (length (x₁ .list)))
@@ -134,6 +143,9 @@ module _ (x₁ : Lent T.the-row) (x₂ : Lent u64) (n : List Shown) (Z : Shown) 
         ((tt, (tt, (record { fits = r₂ .0 }, tt))), ((tt, (tt, (record { fits = r .0 }, tt))),
         typed 𝓤 H A W 3 _ n t ft))))
     well bitmap e r t ft = (state .wt 𝓤 H A W s gs, ((tt, (tt, (record { fits = r₁ .0 }, tt))),
+        ((tt, (tt, (record { fits = r₂ .0 }, tt))), ((tt, (tt, (record { fits = r .0 }, tt))),
+        typed 𝓤 H A W 3 _ n t ft))))
+    well file e r t ft = (state .wt 𝓤 H A W s gs, ((tt, (tt, (record { fits = r₁ .0 }, tt))),
         ((tt, (tt, (record { fits = r₂ .0 }, tt))), ((tt, (tt, (record { fits = r .0 }, tt))),
         typed 𝓤 H A W 3 _ n t ft))))
 
@@ -165,6 +177,12 @@ module _ (x₁ : Lent T.the-row) (x₂ : Lent u64) (n : List Shown) (Z : Shown) 
             ∷ []) ∵
         move ! (1 ∷ []) $ fsplit ! $ drop ! $ move ! (1 ∷ 0 ∷ []) $ comes-in ! $ comes-in ! $ comes-in ! $ drop ! $
         drop ! $ move ! (2 ∷ 1 ∷ 0 ∷ []) $ gathers ! (Lends bitmap e r) (nows (Lends bitmap e r)) $ done !
+    opened file e r t =
+        qed W ((‵ (token x₁) ⊛ (‵ (token x₂) ⊛ (‵ (token e) ⊛ ‵ ftrue)))
+            ∷ ‵ (owns (typesAt {n = 3} (params file n) (lives x₁ x₂ file e)) (args file e t) (argVals file e t))
+            ∷ []) ∵
+        move ! (1 ∷ []) $ fsplit ! $ drop ! $ move ! (1 ∷ 0 ∷ []) $ comes-in ! $ comes-in ! $ comes-in ! $ drop ! $
+        drop ! $ move ! (2 ∷ 1 ∷ 0 ∷ []) $ gathers ! (Lends file e r) (nows (Lends file e r)) $ done !
 
     -- of the values nothing is said at exit
     abbrev lasting : (k : Kind) (e : Extra k) (t : Nums (size k) (lives x₁ x₂ k e) n)
@@ -236,6 +254,15 @@ module _ (x₁ : Lent T.the-row) (x₂ : Lent u64) (n : List Shown) (Z : Shown) 
           move ! (4 ∷ []) $ goes-out ! $ move ! (3 ∷ []) $ goes-out ! $ move ! (2 ∷ []) $ goes-out ! $ move ! (1 ∷ []) $
           nothing ! $ fjoin ! $ move ! (1 ∷ []) $ frame ! $ frame ! $
           owned ! (Z .row) (Is (Z .row)) (Z .makes 𝓤 H A W) z _ gz $ done !
+      exits file e r t zs same z end gz =
+          qed W (‵ (Helds (Lends file e r) zs) ∷ []) ∵
+          suffices ! _ (ends-at 𝓤 H A (ended file n Z) (stayed file n) (clauses 𝓤 file n Z F) W (Bound file e t)
+              (Z .val z) z (tt, (zs .0, (zs .1 .0, (tt, lasting file e t))))
+              (tt, (same .0, (same .1 .0, (tt, silent file e t))))) $
+          says ! end $ scatters ! (Lends file e r) zs $ use0 W (‵ (Has file e t)) (has file e t) $ nothing ! $
+          move ! (4 ∷ []) $ goes-out ! $ move ! (3 ∷ []) $ goes-out ! $ move ! (2 ∷ []) $ goes-out ! $ move ! (1 ∷ []) $
+          nothing ! $ fjoin ! $ move ! (1 ∷ []) $ frame ! $ frame ! $
+          owned ! (Z .row) (Is (Z .row)) (Z .makes 𝓤 H A W) z _ gz $ done !
 
     -- its locals: what the callee answers is of type Q
     module _ (Q : Shown) where
@@ -270,6 +297,9 @@ module _ (x₁ : Lent T.the-row) (x₂ : Lent u64) (n : List Shown) (Z : Shown) 
           relends ! x₂ 2 3 4 refl refl refl (r₂ .0) (a 3) refl tt refl (a 4) refl tt $ s)
       lends bitmap e r t o ps ts = step (λ s. let a = at-t bitmap o ps ts in
           relends ! e 3 1 2 refl refl refl (r .0) (a 1) refl tt refl (a 2) refl tt $ s)
+      lends file e r t o ps ts = step (λ s. let a = at-t file o ps ts in
+          relends ! x₁ 1 1 2 refl refl refl (r₁ .0) (a 1) refl tt refl (a 2) refl tt $
+          relends ! x₂ 2 3 4 refl refl refl (r₂ .0) (a 3) refl tt refl (a 4) refl tt $ s)
 
       pub values-read : (k : Kind) (e : Extra k) (t : Nums (size k) (lives x₁ x₂ k e) n) (o : ℕ)
           (ps : Blocks (asLocals (localTypes k n))) (ts : Blocks (asLocals (Q .mir ∷ temps k)))
@@ -302,3 +332,7 @@ module _ (x₁ : Lent T.the-row) (x₂ : Lent u64) (n : List Shown) (Z : Shown) 
           and-then ! (get ! 2 0 refl refl refl) (and-then ! (get ! 2 1 refl refl refl)
           (and-then ! (get ! 2 2 refl refl refl) (and-then ! (get ! 3 2 refl (a 2) refl)
             (values-read bitmap e t o ps ts w i j _))))
+      reads file e t o ps ts w i j Γ = let a = at-t file o ps ts in
+          and-then ! (get ! 2 0 refl refl refl) (and-then ! (get ! 3 2 refl (a 2) refl)
+          (and-then ! (get ! 3 4 refl (a 4) refl) (and-then ! (get ! 2 3 refl refl refl)
+            (values-read file e t o ps ts w i j _))))

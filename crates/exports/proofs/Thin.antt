@@ -1,4 +1,4 @@
--- A function that hands on all that it is lent, and its walk: books, entries and rows, perhaps a batch or a bitmap, and
+-- A function that hands on all that it is lent, and its walk: books, entries and rows, perhaps a batch or bytes, and
 -- values. One callee takes them all, in the same order; a function of values answers of what that answered.
 --     Thin             such a function: its values, its callees, what they yield, and what its contract says
 --     function         its MIR, by the symbols of its callees, where it is lent as a kind says
@@ -43,7 +43,7 @@ use Rattle.walks.proofs.Values.{Of, copies, Nums, applied, spells, vals, Fits, 
 use Rattle.walks.proofs.Shown.{Shown}
 use Rattle.walks.proofs.Calls.{Yields, yield-call}
 use Rattle.shapes.proofs.Core.{state, books}
-use Rattle.shapes.proofs.Callers.{Kind, look, write, batch, bitmap}
+use Rattle.shapes.proofs.Callers.{Kind, look, write, batch, bitmap, file}
 use Rattle.exports.proofs.Lending.{Extra, extraList, ExtraRoom, Rel, size, ended, clauses, Does, applied-moved}
 use Rattle.exports.proofs.Lending.{localTypes, stayed, go-all, lives, shares, loans, leftBy, Did, called}
 use Rattle.exports.proofs.Passing.{temps, temp, lending, behind, operands, args, argVals, passed}
@@ -236,6 +236,15 @@ module _ (sh : Thin) {M : Type 1} (𝓤 : URA M) (H : Heap 𝓤) (A : Atoms 𝓤
       (λ κs. (state .tells, (shr-slice-tells (named 0) (κs .0) T.the-row, (shr-slice-tells (named 1) (κs .1 .0) u64,
         (mut-slice-tells (named 2) (κs .1 .1 .0) u8, tells 3 κs n)))))
       (λ κs qs bounds a g are. via 𝓤 _ (fst∗ 𝓤 _ (emp 𝓤)) (walk bitmap sh 𝓤 H A W 𝓣 known known-fin (a .0)
+        (lent-by (κs .0) (qs .0) (a .1 .0)) (lent-by (κs .1 .0) (qs .1 .0) (a .1 .1 .0))
+        (lent-by (κs .1 .1 .0) (qs .1 .1 .0) (a .1 .1 .1 .0)) (a .1 .1 .1 .1) (are .0) (are .1 .0 .0 .1)
+        (are .1 .1 .0 .0 .1) (are .1 .1 .1 .0 .0 .1) (are .1 .1 .1 .1)))
+  walks file known known-fin = let n = sh .given in
+      walked 𝓤 H A (ended file n (sh .answer)) (stayed file n) (Ends-in file) (Ran file)
+      (λ κs. (LL.vals K.the-type K′.the-laws, (slice-vals, (slice-vals, (slice-vals, spells 3 κs n)))))
+      (λ κs. (state .tells, (mut-slice-tells (named 0) (κs .0) T.the-row, (mut-slice-tells (named 1) (κs .1 .0) u64,
+        (shr-slice-tells (named 2) (κs .1 .1 .0) u8, tells 3 κs n)))))
+      (λ κs qs bounds a g are. via 𝓤 _ (fst∗ 𝓤 _ (emp 𝓤)) (walk file sh 𝓤 H A W 𝓣 known known-fin (a .0)
         (lent-by (κs .0) (qs .0) (a .1 .0)) (lent-by (κs .1 .0) (qs .1 .0) (a .1 .1 .0))
         (lent-by (κs .1 .1 .0) (qs .1 .1 .0) (a .1 .1 .1 .0)) (a .1 .1 .1 .1) (are .0) (are .1 .0 .0 .1)
         (are .1 .1 .0 .0 .1) (are .1 .1 .1 .0 .0 .1) (are .1 .1 .1 .1)))

@@ -73,7 +73,7 @@ abbrev pub Purges : Outcome → Replied → List ℕ → List Entry → Type 0
 Purges out r rows entries =
     Leaves out r rows entries × (part (r .from) (r .count) rows ≡ out .live) × (r .from + r .count ≤ length rows)
 
--- a scan leaves these bytes; the store st that it read is step's at the end too
+-- a scan or a save leaves these bytes; the store st that it read is step's at the end too
 abbrev pub Shows : Outcome → Seen → List ℕ → Store → Type 0
 Shows out r bytes st =
-    Numbers out (r .number) (r .value) (r .second) × (bytes ≡ out .bitmap) × (st ≡ out .store)
+    Numbers out (r .number) (r .value) (r .second) × (bytes ≡ out .bytes) × (st ≡ out .store)

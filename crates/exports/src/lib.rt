@@ -1,7 +1,7 @@
 // The store for callers in C and Rust: one function for each call, over what that call is lent and no more. Each is the
-// call of crate store by that name, and then its answer in words (D43).
+// call of crate store or recovery by that name, and then its answer in words (D43).
 ghost use mathlib.Core.Path.{_≡_};
-ghost use Rattle.rules.specs.Step.{step, append, clear, rollback, create, scan, purge};
+ghost use Rattle.rules.specs.Step.{step, append, clear, rollback, create, scan, purge, save, recover};
 ghost use Rattle.rules.specs.Step.{begin, commit, beginRo, endRo, advanceLse};
 ghost use Rattle.rules.specs.declared.Reader.the-variants.{Rw, Ro};
 ghost use Rattle.store.specs.Kept.{storeOf};
@@ -15,7 +15,7 @@ use words::Replied;
 use words::Seen;
 use words::reply_to;
 use words::reply_to_purge;
-use words::reply_to_scan;
+use words::reply_to_read;
 
 // Making new at an epoch. It reads no state and writes no lent word. Refusals, in this order: 5 (the lengths), 4.
 #[no_mangle]
@@ -145,7 +145,7 @@ pub extern "C" fn nizgulk_scan_rw(
         (now (entries .entry))) ⌝ }
 {
     let a = store::scan_rw(state, entries, rows, bitmap, txn, p);
-    reply_to_scan(a)
+    reply_to_read(a)
 }
 
 // The read-only transaction of a ticket scans partition p. Refusals, in this order: 5, 1, 2, 3.
@@ -163,7 +163,7 @@ pub extern "C" fn nizgulk_scan_ro(
         (now (entries .entry))) ⌝ }
 {
     let a = store::scan_ro(state, entries, rows, bitmap, ticket, p);
-    reply_to_scan(a)
+    reply_to_read(a)
 }
 
 // LSE moves to a target; 0 means as far as it may go. Refusals, in this order: 5, 4, 10.
@@ -194,4 +194,37 @@ pub extern "C" fn nizgulk_purge(
 {
     let k = store::purge(state, entries, rows, p);
     reply_to_purge(k, p)
+}
+
+// A checkpoint (02: round) of the store as of an epoch, to the front of out; later bytes stay. Refusals, in this order:
+// 5, 4, 3.
+#[no_mangle]
+pub extern "C" fn nizgulk_save(
+    state: State,
+    entries: &[Entry],
+    rows: &[u64],
+    out: &mut [u8],
+    epoch: u64,
+) -> Seen
+    ensures { λ r. ⌜ Shows (step (save epoch (now (out .entry))) (storeOf state (now (rows .entry))
+        (now (entries .entry)))) r (now (out .exit)) (storeOf state (now (rows .entry)) (now (entries .entry))) ⌝ }
+{
+    let a = recovery::save(state, entries, rows, out, epoch);
+    reply_to_read(a)
+}
+
+// The store of the last whole checkpoint in file, made new one epoch above it; at 1 where the file has none. It reads
+// no state. Refusals, in this order: 5 (the lengths), 11.
+#[no_mangle]
+pub extern "C" fn nizgulk_recover(
+    state: State,
+    entries: &mut [Entry],
+    rows: &mut [u64],
+    file: &[u8],
+) -> Replied
+    ensures { λ r. ⌜ Replies (step (recover (now (file .entry))) (storeOf state (now (rows .entry))
+        (now (entries .entry)))) r (now (rows .exit)) (now (entries .exit)) ⌝ }
+{
+    let k = recovery::recover(state, entries, rows, file);
+    reply_to(k)
 }

@@ -22,7 +22,7 @@ pub struct Replied {
     pub count: usize,
 }
 
-// What a scan replies: it leaves the books as they were.
+// What a scan or a save (02 (v)) replies: it leaves the books as they were.
 #[repr(C)]
 pub struct Seen {
     pub number: u64,
@@ -90,8 +90,8 @@ pub fn reply_to_purge(k: Kept, p: u64) -> Replied
     }
 }
 
-// The reply to a scan.
-pub fn reply_to_scan(answer: Answer) -> Seen
+// The reply to a scan or a save.
+pub fn reply_to_read(answer: Answer) -> Seen
     ensures { λ r. ⌜ r ≡ seenOf answer ⌝ }
 {
     let reply = reply_of(answer);

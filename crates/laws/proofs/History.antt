@@ -16,15 +16,19 @@ use Rattle.rules.specs.Limits.{partitionsMax}
 use Rattle.rules.specs.Close.{rolledBackManager}
 use Rattle.rules.specs.Store.{Store, managerOf, partitionAt}
 use Rattle.rules.specs.Bitmap.{bytesFor}
+use Rattle.rules.specs.Checkpoint.{savedIn}
+use Rattle.rules.specs.Recovery.{recoverAnswer}
 use Rattle.rules.specs.Answers.{replyOf, accepted}
 use Rattle.rules.specs.WellFormed.{sound, lengthsOk}
 use Rattle.rules.specs.Calls.{createAnswer, closeAnswer}
 use Rattle.rules.specs.Calls.{appendAnswer, clearAnswer, purgeAnswer, isReader}
 use Rattle.rules.specs.Calls.{seesOf}
 use Rattle.rules.specs.Calls.{appliesOf}
-use Rattle.rules.specs.Step.{Call, create, manage, append, clear, rollback, scan, purge, step, run}
-use Rattle.rules.specs.Ledger.{Ledger, heard, newLedger, linesAt}
-use Rattle.rules.specs.Claim.{eventOf, history, ledgerOf, shownBy, Agrees, HistoryShows}
+use Rattle.rules.specs.Step.{Call, create, manage, append, clear, rollback, scan, purge, save, recover, step, run}
+use Rattle.rules.specs.Ledger.{Ledger, heard, linesAt}
+use Rattle.rules.specs.Claim.{eventOf, history, ledgerOf, shownBy, Agrees, Start, atEpoch, ofFile, firstCall}
+use Rattle.rules.specs.Claim.{firstLedger}
+use Rattle.rules.specs.Claim.{HistoryShows}
 use Rattle.rules.specs.declared.Reader.{Reader}
 use Rattle.laws.proofs.Laws.Lines.{shows-ext}
 use Rattle.laws.proofs.Laws.Safe.{low-sees, low-applies}
@@ -37,6 +41,8 @@ use Rattle.laws.proofs.Laws.Tracks.{tracks-sees}
 use Rattle.laws.proofs.Laws.Tracks.{tracks-applies}
 use Rattle.laws.proofs.Laws.PartitionFollows.{follows-shown}
 use Rattle.laws.proofs.Laws.ManagerCalls.{both-or, manager-follows}
+use Rattle.laws.proofs.Laws.Checkpoint.{saved-ok}
+use Rattle.laws.proofs.Laws.Recovery.{follows-recovered, recover-passed}
 use Rattle.laws.proofs.Laws.Follows.{Follows, follows-create}
 use Rattle.laws.proofs.Laws.Follows.{follows-rollback}
 use Rattle.laws.proofs.Laws.Follows.{follows-append}
@@ -64,6 +70,9 @@ follows-step (scan r p lent) F = F
 follows-step (purge p) {st} F = split (accepted (purgeAnswer p st))
   (λ a. rw a (follows-purge F p (purge-passed p st a .1)))
   (λ f. rw f F)
+follows-step (save e lent) F = F
+follows-step (recover file) {st} F = both-or (recoverAnswer file (lengthsOk st)) F
+  (λ t. follows-recovered (savedIn file) (saved-ok file) st (recover-passed file (lengthsOk st) t .sound))
 
 -- ---- a list of calls
 
@@ -95,11 +104,13 @@ module _ {st : Store} {g : Ledger} (F : Follows st g) (r : Reader) (p : ℕ) (h 
 
 -- ---- demand 3
 
-pub follows-made : (st : Store) (s : ℕ) → accepted (step (create s) st .answer) ≡ true
-    → Follows (step (create s) st .store) (newLedger s)
+pub follows-made : (st : Store) (s : Start) → accepted (step (firstCall s) st .answer) ≡ true
+    → Follows (step (firstCall s) st .store) (firstLedger s)
 unfolding step
-follows-made st s t = let k = create-passed s (lengthsOk st) t in
+follows-made st (atEpoch s) t = let k = create-passed s (lengthsOk st) t in
     rw t (follows-create s st (k .sound) (k .low) (k .high))
+follows-made st (ofFile file) t =
+    rw t (follows-recovered (savedIn file) (saved-ok file) st (recover-passed file (lengthsOk st) t .sound))
 
 pub history-shows : HistoryShows
 history-shows st s t calls r p lent h enough =

@@ -1,8 +1,10 @@
 pub mod Answers
 pub mod Append
 pub mod Begin
+pub mod Bytes
 pub mod Bitmap
 pub mod Calls
+pub mod Checkpoint
 pub mod Close
 pub mod Epochs
 pub mod Follows
@@ -19,6 +21,7 @@ pub mod NotUnsound
 pub mod Oldest
 pub mod PartitionFollows
 pub mod ReadOnly
+pub mod Recovery
 pub mod Rewrite
 pub mod Safe
 pub mod Sees

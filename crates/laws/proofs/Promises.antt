@@ -1,7 +1,7 @@
 -- What a history leaves, and what demand 3 comes to for the readers of a store. Statements: rules/specs/Histories.antt,
 -- rules/specs/Promises.antt.
 -- In order: a history is followed by its ledger; it is sound; LCE; the load that holds it back; a page; a load; a load
--- lands whole; making new.
+-- lands whole; the first call.
 -- Elsewhere: demand 3 itself (History.antt), single calls (Laws/Stays.antt).
 -- Assumes nothing.
 use mathlib.Core.Path.{_≡_, refl, sym, _∙_, ap}
@@ -22,17 +22,18 @@ use Rattle.rules.specs.Store.{Store, managerOf, partitionAt}
 use Rattle.rules.specs.Answers.{replyOf, secondValue, accepted}
 use Rattle.rules.specs.WellFormed.{sound}
 use Rattle.rules.specs.Calls.{closeAnswer, scanAnswer}
-use Rattle.rules.specs.Step.{Call, create, clear, rollback, commit, step, run}
+use Rattle.rules.specs.Step.{Call, clear, rollback, commit, step, run}
 use Rattle.rules.specs.Ledger.{Line, row, delete, Ledger, heard, linesAt, concealed, showsIn, shows}
-use Rattle.rules.specs.Claim.{eventOf, history, ledgerOf, isOpenIn, shownBy, wordsScanned}
+use Rattle.rules.specs.Claim.{eventOf, history, ledgerOf, isOpenIn, shownBy, wordsScanned, Start, atEpoch, ofFile}
+use Rattle.rules.specs.Claim.{firstLedger}
 use Rattle.rules.specs.Histories.{Made, storeAfter, ledgerAfter, HistorySound, HistoryLce, oldest, ledgerNext}
-use Rattle.rules.specs.Histories.{NewClosesAll, NamesOldest, HistoryNamesOldest, HistoryNamesHolder}
+use Rattle.rules.specs.Histories.{StartClosesAll, NamesOldest, HistoryNamesOldest, HistoryNamesHolder}
 use Rattle.rules.specs.Promises.{spares, ownStep, ownRun, HistoryPageUnchanged, HistoryLoadByOwn, HistoryReloads}
 use Rattle.rules.specs.Promises.{marksIn, unhiddenIn, unhidden, shownLines, marked, wordsIn, HistoryLandsWhole}
 use Rattle.rules.specs.declared.Reader.{Reader}
 use Rattle.rules.specs.declared.Reader.the-variants.{Rw, Ro}
 use Rattle.laws.proofs.Laws.Totals.{sound-ok}
-use Rattle.laws.proofs.Laws.Sound.{sound-created, sound-run, sound-answers}
+use Rattle.laws.proofs.Laws.Sound.{sound-answers}
 use Rattle.laws.proofs.Laws.Calls.{close-passed, clear-passed}
 use Rattle.laws.proofs.Laws.Oldest.{tracks-oldest}
 use Rattle.laws.proofs.Laws.Tracks.{Tracks, shownBy-marks, tracks-admits, tracks-latest, tracks-holder}
@@ -40,12 +41,12 @@ use Rattle.laws.proofs.Laws.Stays.{ownStep-page, Stays, stays-still, st
 use Rattle.laws.proofs.Laws.Follows.{Follows}
 use Rattle.laws.proofs.History.{follows-step, follows-run, follows-agrees, follows-made}
 
-pub follows-history : (s : ℕ) (st : Store) → Made s st → (calls : List Call)
+pub follows-history : (s : Start) (st : Store) → Made s st → (calls : List Call)
     → Follows (storeAfter s st calls) (ledgerAfter s st calls)
 follows-history s st h calls = follows-run calls (follows-made st s h)
 
 pub history-sound : HistorySound
-history-sound s st h calls = let ok = sound-run calls (step (create s) st .store) (sound-created s st h) in
+history-sound s st h calls = let ok = follows-history s st h calls .ok in
     (sound-ok (storeAfter s st calls) ok, λ c. sound-answers c (storeAfter s st calls) ok)
 
 pub history-lce : HistoryLce
@@ -172,11 +173,15 @@ history-lands-whole s st h calls r o =
       whole = λ j t p. marked-seen (λ k. elem k (marksIn r g)) j (unhidden r p g) t;
       nothing = λ j f p. marked-unseen (λ k. elem k (marksIn r g)) j (unhidden r p g) f }
 
--- ---- making new closes all
+-- ---- the first call closes all
 
-pub new-closes-all : NewClosesAll
+none-open : (s : Start) (r : Reader) → isOpenIn r (firstLedger s) ≡ false
+none-open (atEpoch s) (Rw i) = refl
+none-open (atEpoch s) (Ro t) = refl
+none-open (ofFile file) (Rw i) = refl
+none-open (ofFile file) (Ro t) = refl
+
+pub start-closes-all : StartClosesAll
 unfolding step scanAnswer
-new-closes-all s st h (Rw i) p l lent = let F = follows-made st s h in
-    rw (sound-ok _ (F .ok), lt-leb partitionsMax p l, tracks-admits (F .tracks) (Rw i))
-new-closes-all s st h (Ro t) p l lent = let F = follows-made st s h in
-    rw (sound-ok _ (F .ok), lt-leb partitionsMax p l, tracks-admits (F .tracks) (Ro t))
+start-closes-all s st h r p l lent = let F = follows-made st s h in
+    rw (sound-ok _ (F .ok), lt-leb partitionsMax p l, tracks-admits (F .tracks) r, none-open s r)

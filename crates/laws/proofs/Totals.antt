@@ -14,17 +14,19 @@ use Rattle.lists.proofs.Laws.Bools.{split}
 use Rattle.lists.proofs.Laws.Tests.{no-proof}
 use Rattle.rules.specs.Limits.{partitionsMax}
 use Rattle.rules.specs.Sees.{upTo}
-use Rattle.rules.specs.Weight.{weight}
+use Rattle.rules.specs.Hides.{shown}
+use Rattle.rules.specs.Weight.{weight, weightBy, total}
 use Rattle.rules.specs.Store.{Store, managerOf, spansAt, totalAt, laid, laidInPlace, laidInSpare}
 use Rattle.rules.specs.Store.{purgedStore}
 use Rattle.rules.specs.Answers.{accepted}
 use Rattle.rules.specs.WellFormed.{sound}
 use Rattle.rules.specs.Rewrite.{skips}
 use Rattle.rules.specs.Calls.{managerAnswer, managerAfter, appendAnswer, clearAnswer, purgeAnswer}
-use Rattle.rules.specs.Step.{Call, create, manage, append, clear, rollback, scan, purge, step}
+use Rattle.rules.specs.Step.{Call, create, manage, append, clear, rollback, scan, purge, save, recover, step}
 use Rattle.rules.specs.Ledger.{Ledger, latest, linesAt, showsBy, readerShows}
 use Rattle.rules.specs.Totals.{keptTotal, shownNow, HistoryTotals, TotalsFresh, leavesTotals, TotalsStay}
 use Rattle.rules.specs.declared.ManagerCall.{ManagerCall}
+use Rattle.laws.proofs.Laws.Hides.{shown-lines}
 use Rattle.laws.proofs.Laws.Lines.{shows-ext}
 use Rattle.laws.proofs.Laws.Manager.{manager-facts}
 use Rattle.laws.proofs.Laws.ManagerCalls.{lce-stays}
@@ -34,7 +36,6 @@ use Rattle.laws.proofs.Laws.Tracks.{alive, marksOf-first, tracks-latest
 use Rattle.laws.proofs.Laws.TracksReadOnly.{snapshot-marks}
 use Rattle.laws.proofs.Laws.Follows.{Follows}
 use Rattle.laws.proofs.Laws.Sound.{sound-step}
-use Rattle.laws.proofs.Laws.Weight.{total-lines}
 use Rattle.laws.proofs.Promises.{follows-history}
 
 -- ---- a page that is opened now
@@ -58,13 +59,17 @@ module _ {st : Store} {g : Ledger} (F : Follows st g) where
   unfolding readerShows
   shown-now t p = ap (λ (ms : List ℕ). showsBy ms (linesAt p g)) (marksOf-first t now (g .readers))
 
+  -- what the spans show at LCE is what the ledger shows it
+  pub follows-now : (t p : ℕ) → p < partitionsMax → shown (upTo lce) (upTo lce) (spansAt p st) ≡ shownNow t p g
+  follows-now t p h = shown-lines (upTo lce) (upTo lce) (spansAt p st)
+      ∙ (follows-shown (F .partition p h) (upTo lce) (upTo lce) low low
+      ∙ (shows-ext (λ j. alive g j && leb j lce) (λ k. alive g k && leb k lce) (λ j. elem j now) (λ k. elem k now)
+        now-marks now-marks (linesAt p g)
+      ∙ sym (shown-now t p)))
+
   pub follows-total : (t p : ℕ) → p < partitionsMax → totalAt p st ≡ weight (shownNow t p g)
-  unfolding totalAt
-  follows-total t p h = total-lines lce (spansAt p st)
-      ∙ (ap weight (follows-shown (F .partition p h) (upTo lce) (upTo lce) low low
-        ∙ shows-ext (λ j. alive g j && leb j lce) (λ k. alive g k && leb k lce) (λ j. elem j now) (λ k. elem k now)
-          now-marks now-marks (linesAt p g))
-      ∙ ap weight (sym (shown-now t p)))
+  unfolding totalAt total weightBy
+  follows-total t p h = ap weight (follows-now t p h)
 
 pub history-totals : HistoryTotals
 history-totals s st h calls p l t = let F = follows-history s st h calls in
@@ -92,6 +97,8 @@ module _ (st : Store) (ok : SoundOk st) (p : ℕ) (l : p < partitionsMax) where
   stays (scan r q lent) h = refl
   stays (purge q) h = split (accepted (purgeAnswer q st))
     (λ t. rw t (split (skips (managerOf st .clock .lse) (spansAt q st)) (λ u. rw u) (λ f. rw f))) (λ f. rw f)
+  stays (save e lent) h = refl
+  stays (recover file) h = no-proof h
 
 pub totals-stay : TotalsStay
 totals-stay c st n h k p l = stays st (sound-facts st n h) p l c k

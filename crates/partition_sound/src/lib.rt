@@ -7,8 +7,10 @@ use rules::Entry;
 use rules::Partition;
 use rules::Partitions;
 use rules::RwTxns;
+use rules::limits::ENTRIES_LENT;
 use rules::limits::ENTRIES_MAX;
 use rules::limits::PARTITIONS_MAX;
+use rules::limits::ROWS_LENT;
 use rules::limits::ROWS_MAX;
 use rules::limits::WRITERS_MAX;
 use totals::Reach;
@@ -19,7 +21,7 @@ ghost use mathlib.Core.Bool.{_&&_};
 ghost use lib.Dec.{leb};
 ghost use Rattle.rules.specs.Limits.{rowsMax, entriesMax};
 ghost use Rattle.partition_sound.specs.Sound.{epochsOf, epochsWith, beforeFirst};
-ghost use Rattle.partition_sound.specs.Asked.{raised, askedOf, askedFor, restAsked};
+ghost use Rattle.partition_sound.specs.Asked.{raised, askedOf, askedFor, lengthsAre, restAsked};
 ghost use Rattle.partition_sound.specs.Rest.{restFound};
 
 mod areas;
@@ -153,6 +155,16 @@ pub fn ask_landing(
             gone: gone,
         },
     }
+}
+
+// n entries and m rows are lent.
+pub fn lengths_ok(n: usize, m: usize) -> bool
+    ensures { λ r. ⌜ r ≡ lengthsAre n m ⌝ }
+{
+    if m != ROWS_LENT {
+        return false;
+    }
+    n == ENTRIES_LENT
 }
 
 // *sound* but for the manager.

@@ -7,11 +7,10 @@ use crate::Verdict;
 use crate::areas::areas_ok;
 use crate::before_first;
 use crate::counts_ok;
+use crate::lengths_ok;
 use rules::Partition;
 use rules::Partitions;
-use rules::limits::ENTRIES_LENT;
 use rules::limits::PARTITIONS_MAX;
-use rules::limits::ROWS_LENT;
 use rules::limits::WRITERS_MAX;
 use totals::Cuts;
 use totals::Reach;
@@ -85,10 +84,7 @@ pub fn start() -> Last
 pub fn begin(n: usize, m: usize, ps: Partitions) -> bool
     ensures { λ r. ⌜ r ≡ begins n m ps ⌝ }
 {
-    if m != ROWS_LENT {
-        return false;
-    }
-    if n != ENTRIES_LENT {
+    if !lengths_ok(n, m) {
         return false;
     }
     areas_ok(ps)

@@ -13,7 +13,7 @@ use Rattle.rules.specs.Bitmap.{bytesFor}
 use Rattle.rules.specs.WellFormed.{managerOk}
 use Rattle.rules.specs.declared.Answer.the-variants.{Scanned, Refused}
 use Rattle.rules.specs.declared.Refusal.{Refusal}
-use Rattle.rules.specs.declared.Refusal.the-variants.{NotOpen, ShortBitmap}
+use Rattle.rules.specs.declared.Refusal.the-variants.{NotOpen, ShortOutput}
 use Rattle.rules.specs.Manager.{Manager}
 use Rattle.rules.specs.declared.Partition.{Partition}
 use Rattle.rules.specs.declared.State.{State}
@@ -38,7 +38,7 @@ refusedLook why = record { answer = Refused why; bits = noBits; count = 0 }
 -- the reader of view v and of these deps, with the entries of area a and k bytes lent
 unfoldable pub lookAt : Area → Partition → View → List ℕ → ℕ → Look
 lookAt a q v deps k =
-    cond (ltb k (bytesFor (q .rows))) (refusedLook ShortBitmap)
+    cond (ltb k (bytesFor (q .rows))) (refusedLook ShortOutput)
     (record {
       answer = Scanned (q .rows) (scanned v deps a (q .rows) noBits .ones);
       bits = bitmapScanned v deps a (q .rows) noBits; count = bytesFor (q .rows) })

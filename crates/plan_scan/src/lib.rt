@@ -44,7 +44,7 @@ fn scan_partition(a: Area, q: Partition, v: View, deps: &[u64], k: usize) -> Loo
     let rows = q.rows;
     let count = bitmap::bytes_for(rows);
     if k < count {
-        return refused(Refusal::ShortBitmap);
+        return refused(Refusal::ShortOutput);
     }
     let mut bits = [0u8; BITMAP_MAX];
     let done = visible::scan(v, deps, a, rows, &mut bits);

@@ -10,7 +10,7 @@ use native.Mathlib.Omega.{arith}
 use lib.ListN.{length}
 use Rattle.lists.specs.Lists.{gather}
 use Rattle.rules.specs.Bitmap.{bytesFor}
-use Rattle.rules.specs.Claim.{Agrees, history, isOpenIn, ledgerOf, shownBy}
+use Rattle.rules.specs.Claim.{Agrees, atEpoch, history, isOpenIn, ledgerOf, shownBy}
 use Rattle.rules.specs.Ledger.{Ledger, newLedger}
 use Rattle.rules.specs.Limits.{rowsMax, areasMax, partitionsMax}
 use Rattle.rules.specs.Step.{run}
@@ -48,9 +48,9 @@ module _ (rows : List ℕ) (size : length rows ≡ rowsMax * areasMax) (lines : 
   unfolding started
   session-agrees r p h = let st = storeOf (createdState 1) rows filled0 in let calls = gather callsOf lines in
       let end = run calls (started rows .store) in
-      let room = rows-room end (follows-history 1 st (start-accepted rows size) calls .ok) p h in
-      rw (lines-run lines (started rows .store)) (history-shows st 1 (start-accepted rows size) calls r p bits h
-        (bits-enough (partitionAt p end .rows) room))
+      let room = rows-room end (follows-history (atEpoch 1) st (start-accepted rows size) calls .ok) p h in
+      rw (lines-run lines (started rows .store)) (history-shows st (atEpoch 1) (start-accepted rows size) calls r p bits
+        h (bits-enough (partitionAt p end .rows) room))
 
   pub session-shows : (line : List ℕ) (r : Reader) (p n : ℕ) → parsed line ≡ Is (Scan r p) n → p < partitionsMax
       → isOpenIn r ledgerIn ≡ true → answerTo line after ≡ lineOf 83 0 (shownBy r p ledgerIn)

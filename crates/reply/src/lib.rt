@@ -21,7 +21,7 @@ fn refusal_number(r: Refusal) -> u64
     match r {
         Refusal::UnknownPartition => 1,
         Refusal::NotOpen => 2,
-        Refusal::ShortBitmap => 3,
+        Refusal::ShortOutput => 3,
         Refusal::OutOfRange => 4,
         Refusal::Unsound => 5,
         Refusal::Exhausted => 6,
@@ -29,6 +29,17 @@ fn refusal_number(r: Refusal) -> u64
         Refusal::RowsFull => 8,
         Refusal::EntriesFull => 9,
         Refusal::Blocked => 10,
+        Refusal::Corrupt => 11,
+    }
+}
+
+fn none() -> ReplyWords
+    ensures { λ r. ⌜ r ≡ accepted 0 0 0 ⌝ }
+{
+    ReplyWords {
+        number: 0,
+        values: [0, 0],
+        count: 0,
     }
 }
 
@@ -56,11 +67,7 @@ pub fn reply_of(answer: Answer) -> ReplyWords
     ensures { λ r. ⌜ r ≡ wordsOf (replyOf answer) ⌝ }
 {
     match answer {
-        Answer::Created => ReplyWords {
-            number: 0,
-            values: [0, 0],
-            count: 0,
-        },
+        Answer::Created => none(),
         Answer::Begun { epoch } => one(epoch),
         Answer::Appended { rows } => one(rows as u64),
         Answer::Cleared { entries } => one(entries as u64),
@@ -71,6 +78,8 @@ pub fn reply_of(answer: Answer) -> ReplyWords
         Answer::AdvancedLse { lse } => one(lse),
         Answer::Rewritten { rows: _ } => one(1),
         Answer::Skipped { rows: _ } => one(0),
+        Answer::Saved { bytes } => one(bytes as u64),
+        Answer::Recovered => none(),
         Answer::Refused(r) => ReplyWords {
             number: refusal_number(r),
             values: [0, 0],

@@ -19,16 +19,16 @@ use Rattle.rules.proofs.Look.{made, Look, linesOf, bytesTo, entriesIn}
 use Rattle.rules.proofs.Look.{totalsLeft, Case, observed, alike, agree, agree-eq}
 
 -- a line that is only a number, a line of 0 and a value, and that of a commit or roll back: LCE, the oldest open epoch
-only : ℕ → List ℕ
+unfoldable pub only : ℕ → List ℕ
 only n = n ∷ []
 
-ok : ℕ → List ℕ
+unfoldable pub ok : ℕ → List ℕ
 ok v = 0 ∷ v ∷ []
 
 closed : ℕ → ℕ → List ℕ
 closed lce oldest = 0 ∷ lce ∷ oldest ∷ []
 
-case : Store → List Call → Look → List (List ℕ) → Case
+unfoldable pub case : Store → List Call → Look → List (List ℕ) → Case
 case st cs l e = record { start = st; calls = cs; look = l; expected = e }
 
 look : Reader → Call
@@ -169,7 +169,7 @@ edges-hold = agree-eq (map observed edges) (map (λ c. c .expected) edges) refl
 -- ---- the order of the refusals: each neighbouring pair of each call, both of which hold
 
 -- LSE above LCE
-spoilt : Store → Store
+unfoldable pub spoilt : Store → Store
 spoilt st = withManager (withClock (withLse (suc (managerOf st .clock .lce)) (managerOf st .clock)) (managerOf st))
     st
 

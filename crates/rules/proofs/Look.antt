@@ -31,7 +31,9 @@ use Rattle.rules.specs.WellFormed.{epochOk, endsOk, apart, partitionOk, 
 use Rattle.rules.specs.Calls.{createAnswer, beginAnswer, appendAnswer, clearAnswer, closeAnswer}
 use Rattle.rules.specs.Calls.{beginRoAnswer, endRoAnswer, seesOf, appliesOf, flagsAt, scanAnswer}
 use Rattle.rules.specs.Calls.{advanceLseAnswer, purgeAnswer}
-use Rattle.rules.specs.Step.{Call, create, scan, onScan, step, run}
+use Rattle.rules.specs.Checkpoint.{bytesOf, numberOf, numbersIn, encoded, rowsIn, headerOk, lastFrom}
+use Rattle.rules.specs.Recovery.{checkpointAt, saveAnswer, recoveredBelow, recoveredStore, recoverAnswer}
+use Rattle.rules.specs.Step.{Call, create, scan, save, onScan, savedOver, step, run}
 use Rattle.rules.specs.Claim.{bitAt, wordsScanned, wordsAtOnes}
 use Rattle.rules.specs.declared.Reader.{Reader}
 
@@ -63,6 +65,8 @@ pub data Look : Type 0 where
   bitsTo : Reader → ℕ → Look
   -- a scan's number, row count and count of ones, and the bytes that it leaves of those that it is lent
   bytesTo : Reader → ℕ → List ℕ → Look
+  -- a save's number and its value, and the bytes that it leaves of those that it is lent
+  savedTo : ℕ → List ℕ → Look
   -- the entries of a partition: epoch, end, mark
   entriesIn : ℕ → Look
   -- the totals of all partitions
@@ -76,10 +80,13 @@ bits (suc n) i bytes = cond (bitAt bytes i) 1 0 ∷ bits n (suc i) bytes
 unfoldable pub looked : Look → Store → List (List ℕ)
 looked (linesOf cs) st = lines cs st
 looked (bitsTo r p) st =
-    let out = step (scan r p (replicate 64 255)) st in bits (firstValue (replyOf (out .answer))) 0 (out .bitmap) ∷ []
+    let out = step (scan r p (replicate 64 255)) st in bits (firstValue (replyOf (out .answer))) 0 (out .bytes) ∷ []
 looked (bytesTo r p lent) st =
     let out = step (scan r p lent) st in
-    let reply = replyOf (out .answer) in (reply .number ∷ firstValue reply ∷ secondValue reply ∷ []) ∷ out .bitmap ∷ []
+    let reply = replyOf (out .answer) in (reply .number ∷ firstValue reply ∷ secondValue reply ∷ []) ∷ out .bytes ∷ []
+looked (savedTo e lent) st =
+    let out = step (save e lent) st in
+    let reply = replyOf (out .answer) in (reply .number ∷ firstValue reply ∷ []) ∷ out .bytes ∷ []
 looked (entriesIn p) st = map (λ e. e .epoch ∷ e .end ∷ e .mark ∷ []) (entriesAt p st)
 looked totalsLeft st = st .state .totals ∷ []
 
@@ -99,7 +106,8 @@ unfolding made line lines bits looked lastEpoch lastTicket createdManager begunM
     apart partitionOk lengthsOk wellFormed shownIn shown weight weightBy total totalAt totalsOf totalsOk
     sound createAnswer beginAnswer appendAnswer clearAnswer closeAnswer
     beginRoAnswer endRoAnswer seesOf appliesOf flagsAt scanAnswer advanceLseAnswer purgeAnswer step run
-    wordsAtOnes
+    wordsAtOnes bytesOf numberOf numbersIn encoded rowsIn headerOk lastFrom checkpointAt saveAnswer recoveredBelow
+    recoveredStore recoverAnswer savedOver
 observed c = looked (c .look) (run (c .calls) (c .start))
 
 -- ---- a table's test

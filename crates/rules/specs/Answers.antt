@@ -1,5 +1,5 @@
 -- 01's numbers and values for what a call answers. 01 "Refusals that come from the input", ".. from the
--- state", and each call.
+-- state", and each call; 02 (v).
 -- In order: refusalNumber (the one table of refusals), Reply, replyOf (the one table of values), accepted, livePart.
 -- Laws: laws/proofs/Laws/Answers.antt.
 -- Assumes nothing.
@@ -9,18 +9,18 @@ use Prim.Native.Nat.{ℕ}
 use lib.ListN.{take, getD}
 use lib.Dec.{eqb}
 use Rattle.rules.specs.declared.Refusal.{Refusal}
-use Rattle.rules.specs.declared.Refusal.the-variants.{UnknownPartition, NotOpen, ShortBitmap}
+use Rattle.rules.specs.declared.Refusal.the-variants.{UnknownPartition, NotOpen, ShortOutput}
 use Rattle.rules.specs.declared.Refusal.the-variants.{OutOfRange, Unsound, Exhausted, TxnsFull}
-use Rattle.rules.specs.declared.Refusal.the-variants.{RowsFull, EntriesFull, Blocked}
+use Rattle.rules.specs.declared.Refusal.the-variants.{RowsFull, EntriesFull, Blocked, Corrupt}
 use Rattle.rules.specs.declared.Answer.{Answer}
 use Rattle.rules.specs.declared.Answer.the-variants.{Created, Begun, Appended, Cleared, Closed, BegunRo}
 use Rattle.rules.specs.declared.Answer.the-variants.{EndedRo, Scanned, AdvancedLse, Rewritten, Skipped}
-use Rattle.rules.specs.declared.Answer.the-variants.{Refused}
+use Rattle.rules.specs.declared.Answer.the-variants.{Saved, Recovered, Refused}
 
 abbrev pub refusalNumber : Refusal → ℕ
 refusalNumber UnknownPartition = 1
 refusalNumber NotOpen = 2
-refusalNumber ShortBitmap = 3
+refusalNumber ShortOutput = 3
 refusalNumber OutOfRange = 4
 refusalNumber Unsound = 5
 refusalNumber Exhausted = 6
@@ -28,6 +28,7 @@ refusalNumber TxnsFull = 7
 refusalNumber RowsFull = 8
 refusalNumber EntriesFull = 9
 refusalNumber Blocked = 10
+refusalNumber Corrupt = 11
 
 -- the number, and the values in 01's order
 pub record Reply : Type 0 where
@@ -50,6 +51,8 @@ replyOf (Scanned rows ones) = yields (rows ∷ ones ∷ [])
 replyOf (AdvancedLse lse) = yields (lse ∷ [])
 replyOf (Rewritten rows) = yields (1 ∷ [])
 replyOf (Skipped rows) = yields (0 ∷ [])
+replyOf (Saved bytes) = yields (bytes ∷ [])
+replyOf Recovered = yields []
 replyOf (Refused r) = record { number = refusalNumber r; values = [] }
 
 -- the most values that an answer has
@@ -79,4 +82,6 @@ livePart old new (Scanned rows ones) = []
 livePart old new (AdvancedLse lse) = []
 livePart old new (Rewritten rows) = take rows new
 livePart old new (Skipped rows) = take rows old
+livePart old new (Saved bytes) = []
+livePart old new Recovered = []
 livePart old new (Refused r) = []

@@ -31,7 +31,7 @@ use Rattle.rules.specs.declared.Reader.the-variants.{Rw, Ro}
 use Rattle.rules.specs.declared.ManagerCall.{ManagerCall}
 use Rattle.rules.specs.declared.ManagerCall.the-variants.{Begin, Commit, BeginRo, EndRo, AdvanceLse}
 use Rattle.rules.specs.declared.Refusal.{Refusal}
-use Rattle.rules.specs.declared.Refusal.the-variants.{UnknownPartition, NotOpen, ShortBitmap}
+use Rattle.rules.specs.declared.Refusal.the-variants.{UnknownPartition, NotOpen, ShortOutput}
 use Rattle.rules.specs.declared.Refusal.the-variants.{OutOfRange, Unsound, Exhausted, TxnsFull}
 use Rattle.rules.specs.declared.Refusal.the-variants.{RowsFull, EntriesFull, Blocked}
 use Rattle.rules.specs.declared.Answer.{Answer}
@@ -155,5 +155,5 @@ scanAnswer r p lent st =
     refuse Unsound (not (sound st))
     (refuse UnknownPartition (leb partitionsMax p)
     (refuse NotOpen (not (isReader r (managerOf st)))
-    (refuse ShortBitmap (ltb (length lent) (bytesFor (partitionAt p st .rows)))
+    (refuse ShortOutput (ltb (length lent) (bytesFor (partitionAt p st .rows)))
     (Scanned (partitionAt p st .rows) (ones (flagsAt r p st))))))

@@ -1,6 +1,6 @@
--- What a history leaves: a list of calls on a store that an accepted making new left. 01 "The books" (LCE), "Refusals"
--- (5); 02 (i).
--- In order: a history; it is sound; making new closes all; LCE; the load that holds LCE back. Proofs:
+-- What a history leaves: a list of calls on a store that an accepted making new or recovery left. 01 "The books" (LCE),
+-- "Refusals" (5); 02 (i), (v).
+-- In order: a history; it is sound; its first call closes all; LCE; the load that holds LCE back. Proofs:
 -- laws/proofs/Promises.antt.
 -- Assumes nothing.
 use mathlib.Core.Path.{_≡_}
@@ -12,41 +12,41 @@ use Rattle.rules.specs.Limits.{partitionsMax}
 use Rattle.rules.specs.Store.{Store, managerOf}
 use Rattle.rules.specs.Answers.{replyOf, secondValue, accepted}
 use Rattle.rules.specs.WellFormed.{sound}
-use Rattle.rules.specs.Step.{Call, create, rollback, scan, commit, step, run}
-use Rattle.rules.specs.Ledger.{Ledger, newLedger, latest}
-use Rattle.rules.specs.Claim.{history, ledgerOf, isOpenIn}
+use Rattle.rules.specs.Step.{Call, rollback, scan, commit, step, run}
+use Rattle.rules.specs.Ledger.{Ledger, latest}
+use Rattle.rules.specs.Claim.{history, ledgerOf, isOpenIn, Start, firstCall, firstLedger}
 use Rattle.rules.specs.declared.Reader.{Reader}
 use Rattle.rules.specs.declared.Reader.the-variants.{Rw}
 use Rattle.rules.specs.declared.Answer.the-variants.{Refused}
 use Rattle.rules.specs.declared.Refusal.the-variants.{NotOpen}
 
--- ---- a history: making new at s is accepted, and a list of calls follows
+-- ---- a history: making new or recovery is accepted, and a list of calls follows
 
-abbrev pub Made : ℕ → Store → Type 0
-Made s st = accepted (step (create s) st .answer) ≡ true
+abbrev pub Made : Start → Store → Type 0
+Made s st = accepted (step (firstCall s) st .answer) ≡ true
 
-abbrev pub storeAfter : ℕ → Store → List Call → Store
-storeAfter s st calls = run calls (step (create s) st .store)
+abbrev pub storeAfter : Start → Store → List Call → Store
+storeAfter s st calls = run calls (step (firstCall s) st .store)
 
-abbrev pub ledgerAfter : ℕ → Store → List Call → Ledger
-ledgerAfter s st calls = ledgerOf (history calls (step (create s) st .store)) (newLedger s)
+abbrev pub ledgerAfter : Start → Store → List Call → Ledger
+ledgerAfter s st calls = ledgerOf (history calls (step (firstCall s) st .store)) (firstLedger s)
 
 -- the store is sound, and no call that follows answers 5
 abbrev pub HistorySound : Type 0
 HistorySound =
-    (s : ℕ) (st : Store) → Made s st → (calls : List Call) → let end = storeAfter s st calls in
+    (s : Start) (st : Store) → Made s st → (calls : List Call) → let end = storeAfter s st calls in
     (sound end ≡ true) × ((c : Call) → replyOf (step c end .answer) .number ≡ 5 → ⊥)
 
--- making new closes all: no page and no load is open on the store that it leaves
-abbrev pub NewClosesAll : Type 0
-NewClosesAll =
-    (s : ℕ) (st : Store) → Made s st → (r : Reader) (p : ℕ) → p < partitionsMax → (lent : List ℕ)
-    → step (scan r p lent) (step (create s) st .store) .answer ≡ Refused NotOpen
+-- the first call closes all: no page and no load is open on the store that it leaves
+abbrev pub StartClosesAll : Type 0
+StartClosesAll =
+    (s : Start) (st : Store) → Made s st → (r : Reader) (p : ℕ) → p < partitionsMax → (lent : List ℕ)
+    → step (scan r p lent) (step (firstCall s) st .store) .answer ≡ Refused NotOpen
 
 -- LCE is the greatest committed epoch that has no open load of smaller epoch
 abbrev pub HistoryLce : Type 0
 HistoryLce =
-    (s : ℕ) (st : Store) → Made s st → (calls : List Call)
+    (s : Start) (st : Store) → Made s st → (calls : List Call)
     → managerOf (storeAfter s st calls) .clock .lce ≡ latest (ledgerAfter s st calls)
 
 -- ---- the load that holds LCE back (02 (i)): commit and roll back name the oldest open load
@@ -66,7 +66,7 @@ NamesOldest c at g =
 
 abbrev pub HistoryNamesOldest : Type 0
 HistoryNamesOldest =
-    (s : ℕ) (st : Store) → Made s st → (calls : List Call) (i : ℕ)
+    (s : Start) (st : Store) → Made s st → (calls : List Call) (i : ℕ)
     → let g = ledgerAfter s st calls in let at = storeAfter s st calls in
       NamesOldest (commit i) at g × NamesOldest (rollback i) at g
 
@@ -79,7 +79,7 @@ pub record HoldsBack (h i lce : ℕ) (g : Ledger) : Type 0 where
 -- a commit of i that leaves LCE below i names a load that holds it back
 abbrev pub HistoryNamesHolder : Type 0
 HistoryNamesHolder =
-    (s : ℕ) (st : Store) → Made s st → (calls : List Call) (i : ℕ)
+    (s : Start) (st : Store) → Made s st → (calls : List Call) (i : ℕ)
     → let g = ledgerAfter s st calls in let at = storeAfter s st calls in
       let out = step (commit i) at in let lce = managerOf (out .store) .clock .lce in
       accepted (out .answer) ≡ true → lce < i

@@ -1,13 +1,14 @@
 -- The ledger of demand 3, kept from the history of calls alone. 01 "The ledger of demand 3".
--- It shares nothing with the store but lists and numbers. In order: lines, Ledger, Event, heard, what it
--- shows.
+-- It shares nothing with the store but lists and numbers, and how a file is read (02 (v), Checkpoint.antt). In order:
+-- lines, Ledger, Event, heard, what it shows.
 -- Assumes nothing.
 use mathlib.Core.Bool.{Bool, false, not, _&&_, _||_, cond}
 use mathlib.Core.List.{List, [], _∷_, _++_, map, foldr}
-use Prim.Native.Nat.{ℕ, _-_, max}
+use Prim.Native.Nat.{ℕ, suc, _-_, max}
 use lib.ListN.{getD, set, replicate}
 use lib.Dec.{ltb, leb, eqb}
 use Rattle.lists.specs.Lists.{keepIf, anyOf, firstOf, elem}
+use Rattle.rules.specs.Checkpoint.{Checkpoint, savedIn}
 
 -- a row with its transaction's mark, or a delete (01: clearing) with its mark
 pub data Line : Type 0 where
@@ -28,7 +29,8 @@ pub record Ledger : Type 0 where
   pub readers : List Snapshot
   pub lines : List (List Line)
 
--- ---- what it is fed: a call's arguments and number, begin's epoch and open's ticket, and nothing else
+-- ---- what it is fed: a call's arguments and number, begin's epoch and open's ticket, and nothing else; of a recovery
+-- the bytes of the file
 
 pub data Event : Type 0 where
   newAt : (number s : ℕ) → Event
@@ -39,6 +41,7 @@ pub data Event : Type 0 where
   aborted : (number i : ℕ) → Event
   opened : (number e ticket : ℕ) → Event
   closed : (number t : ℕ) → Event
+  recovered : (number : ℕ) → List ℕ → Event
   other : Event
 
 -- ---- setters
@@ -60,6 +63,14 @@ withOpenRo rs g =
 -- making new at s: no transaction, an empty list for each of the eight partitions
 abbrev pub newLedger : ℕ → Ledger
 newLedger s = record { start = s; committed = []; writers = []; readers = []; lines = replicate 8 [] }
+
+-- recovery of checkpoint c (02: round), of epoch L: started at L + 1, load L is committed, and the rows are its; at
+-- L = 0 there are none, and no such load
+abbrev pub recoveredLedger : Checkpoint → Ledger
+recoveredLedger c =
+    let e = c .epoch in
+    record { start = suc e; committed = cond (eqb e 0) [] (e ∷ []); writers = []; readers = [];
+      lines = map (map (row e)) (c .rows) }
 
 abbrev pub named : ℕ → Snapshot → Bool
 named n s = eqb (s .name) n
@@ -103,6 +114,7 @@ heard (committed n i) g = ifAccepted n (withOpenRw (i ∷ g .committed) (without
 heard (aborted n i) g = ifAccepted n (withOpenRw (g .committed) (without i (g .writers)) g) g
 heard (opened n e t) g = ifAccepted n (withOpened e t g) g
 heard (closed n t) g = ifAccepted n (withOpenRo (without t (g .readers)) g) g
+heard (recovered n file) g = ifAccepted n (recoveredLedger (savedIn file)) g
 heard other g = g
 
 -- ---- what it shows

@@ -13,13 +13,16 @@ pub mod Top
 pub mod Bare
 pub mod Rewrite
 pub mod Bitmap
+pub mod Checkpoint
 pub mod Store
 pub mod Answers
 pub mod WellFormed
 pub mod Calls
+pub mod Recovery
 pub mod Step
 pub mod Ledger
 pub mod Claim
 pub mod Histories
 pub mod Totals
+pub mod Saving
 pub mod Promises

@@ -11,13 +11,16 @@ use lib.Dec.{eqb}
 use Rattle.lists.specs.Lists.{keepIf, allOf, elem}
 use Rattle.rules.specs.Limits.{partitionsMax, lastEpoch}
 use Rattle.rules.specs.Bitmap.{bytesFor}
+use Rattle.rules.specs.Checkpoint.{corruptIn}
 use Rattle.rules.specs.Store.{Store, partitionAt}
 use Rattle.rules.specs.Answers.{yields, accepted}
 use Rattle.rules.specs.Calls.{within}
-use Rattle.rules.specs.Step.{Call, create, manage, append, clear, rollback, scan, purge, step, run}
-use Rattle.rules.specs.Ledger.{Event, newAt, began, added, deleted, committed, aborted, opened, closed, other}
+use Rattle.rules.specs.Step.{Call, create, manage, append, clear, rollback, scan, purge, save, recover}
+use Rattle.rules.specs.Step.{step, run}
+use Rattle.rules.specs.Ledger.{Event, newAt, began, added, deleted, committed, aborted, opened, closed, recovered}
+use Rattle.rules.specs.Ledger.{other}
 use Rattle.rules.specs.Ledger.{Line, row, delete, Ledger, linesAt, concealed, marksOf}
-use Rattle.rules.specs.Claim.{eventOf, history, ledgerOf, isOpenIn, shownBy, wordsScanned}
+use Rattle.rules.specs.Claim.{eventOf, history, ledgerOf, isOpenIn, shownBy, wordsScanned, Start}
 use Rattle.rules.specs.Histories.{Made, storeAfter, ledgerAfter}
 use Rattle.rules.specs.declared.Reader.{Reader}
 use Rattle.rules.specs.declared.Reader.the-variants.{Rw, Ro}
@@ -33,7 +36,8 @@ abbrev pub isPage : ℕ → Reader → Bool
 isPage u (Rw i) = false
 isPage u (Ro t) = eqb u t
 
--- what the ledger hears closes r: its own closing, and making new at an epoch in range, which closes every reader
+-- what the ledger hears closes r: its own closing, and making new at an epoch in range or recovery of a file that is
+-- not refused, which close every reader
 abbrev pub closes : Reader → Event → Bool
 closes r (newAt n s) = within 1 lastEpoch s
 closes r (began n i) = false
@@ -43,6 +47,7 @@ closes r (committed n i) = isLoad i r
 closes r (aborted n i) = isLoad i r
 closes r (opened n e t) = false
 closes r (closed n t) = isPage t r
+closes r (recovered n file) = not (corruptIn file)
 closes r other = false
 
 -- a call that does not close r even if it is accepted
@@ -59,6 +64,8 @@ ownStep r p (clear i q) a ws = cond (isLoad i r && eqb p q && accepted a) [] ws
 ownStep r p (rollback i) a ws = ws
 ownStep r p (scan v q lent) a ws = ws
 ownStep r p (purge q) a ws = ws
+ownStep r p (save e lent) a ws = ws
+ownStep r p (recover file) a ws = ws
 
 -- a list of calls, in order
 abbrev pub ownRun : Reader → ℕ → List Call → Store → List ℕ → List ℕ
@@ -77,7 +84,7 @@ pub record PageSame (t : ℕ) (g g′ : Ledger) (st st′ : Store) : Type 0 wher
 
 abbrev pub HistoryPageUnchanged : Type 0
 HistoryPageUnchanged =
-    (s : ℕ) (st : Store) → Made s st → (before : List Call) (t : ℕ)
+    (s : Start) (st : Store) → Made s st → (before : List Call) (t : ℕ)
     → let g = ledgerAfter s st before in let at = storeAfter s st before in
       isOpenIn (Ro t) g ≡ true → (calls : List Call) → allOf (spares (Ro t)) calls ≡ true
     → PageSame t g (ledgerOf (history calls at) g) at (run calls at)
@@ -93,7 +100,7 @@ pub record LoadByOwn (i : ℕ) (own : ℕ → List ℕ → List ℕ) (g g′ : L
 
 abbrev pub HistoryLoadByOwn : Type 0
 HistoryLoadByOwn =
-    (s : ℕ) (st : Store) → Made s st → (before : List Call) (i : ℕ)
+    (s : Start) (st : Store) → Made s st → (before : List Call) (i : ℕ)
     → let g = ledgerAfter s st before in let at = storeAfter s st before in
       isOpenIn (Rw i) g ≡ true → (calls : List Call) → allOf (spares (Rw i)) calls ≡ true
     → LoadByOwn i (λ p. ownRun (Rw i) p calls at) g (ledgerOf (history calls at) g) at (run calls at)
@@ -101,7 +108,7 @@ HistoryLoadByOwn =
 -- so a partition that it clears and loads anew shows it what it loads from then on, and nothing else
 abbrev pub HistoryReloads : Type 0
 HistoryReloads =
-    (s : ℕ) (st : Store) → Made s st → (before : List Call) (i p : ℕ)
+    (s : Start) (st : Store) → Made s st → (before : List Call) (i p : ℕ)
     → let at = step (clear i p) (storeAfter s st before) in accepted (at .answer) ≡ true
     → (calls : List Call) → allOf (spares (Rw i)) calls ≡ true → (lent : List ℕ)
     → bytesFor (partitionAt p (run calls (at .store)) .rows) ≤ length lent
@@ -145,5 +152,5 @@ pub record LandsWhole (r : Reader) (g : Ledger) (st : Store) : Type 0 where
 
 abbrev pub HistoryLandsWhole : Type 0
 HistoryLandsWhole =
-    (s : ℕ) (st : Store) → Made s st → (calls : List Call) (r : Reader)
+    (s : Start) (st : Store) → Made s st → (calls : List Call) (r : Reader)
     → isOpenIn r (ledgerAfter s st calls) ≡ true → LandsWhole r (ledgerAfter s st calls) (storeAfter s st calls)

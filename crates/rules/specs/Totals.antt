@@ -12,8 +12,10 @@ use Rattle.rules.specs.Limits.{partitionsMax}
 use Rattle.rules.specs.Weight.{weight}
 use Rattle.rules.specs.Store.{Store, totalAt}
 use Rattle.rules.specs.WellFormed.{sound}
-use Rattle.rules.specs.Step.{Call, create, manage, append, clear, rollback, scan, purge, step}
+use Rattle.rules.specs.Step.{Call, create, manage, append, clear, rollback, scan, purge, save, recover}
+use Rattle.rules.specs.Step.{step}
 use Rattle.rules.specs.Ledger.{Ledger, withOpened, readerShows}
+use Rattle.rules.specs.Claim.{Start}
 use Rattle.rules.specs.Histories.{Made, storeAfter, ledgerAfter}
 use Rattle.rules.specs.declared.ManagerCall.the-variants.{Begin, Commit, BeginRo, EndRo, AdvanceLse}
 
@@ -27,7 +29,7 @@ shownNow t p g = readerShows t p (withOpened 0 t g)
 
 abbrev pub HistoryTotals : Type 0
 HistoryTotals =
-    (s : ℕ) (st : Store) → Made s st → (calls : List Call) (p : ℕ) → p < partitionsMax → (t : ℕ)
+    (s : Start) (st : Store) → Made s st → (calls : List Call) (p : ℕ) → p < partitionsMax → (t : ℕ)
     → keptTotal p (storeAfter s st calls) ≡ weight (shownNow t p (ledgerAfter s st calls))
 
 -- every call on a sound store, refused ones included; an array of the source has its length by its type
@@ -36,7 +38,7 @@ TotalsFresh =
     (c : Call) (st : Store) → length (st .state .partitions .at) ≡ partitionsMax → sound st ≡ true
     → (p : ℕ) → p < partitionsMax → let end = step c st .store in keptTotal p end ≡ totalAt p end
 
--- all but making new, commit and roll back
+-- all but making new, commit, roll back and recovery
 abbrev pub leavesTotals : Call → Bool
 leavesTotals (create s) = false
 leavesTotals (manage Begin) = true
@@ -49,6 +51,8 @@ leavesTotals (clear i p) = true
 leavesTotals (rollback i) = false
 leavesTotals (scan r p lent) = true
 leavesTotals (purge p) = true
+leavesTotals (save e lent) = true
+leavesTotals (recover file) = false
 
 abbrev pub TotalsStay : Type 0
 TotalsStay =

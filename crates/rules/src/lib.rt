@@ -93,7 +93,7 @@ pub enum Reader {
 pub enum Refusal {
     UnknownPartition,
     NotOpen,
-    ShortBitmap,
+    ShortOutput,
     OutOfRange,
     Unsound,
     Exhausted,
@@ -101,6 +101,7 @@ pub enum Refusal {
     RowsFull,
     EntriesFull,
     Blocked,
+    Corrupt,
 }
 
 // What a call answers. specs/Answers.antt has 01's number and values for each case.
@@ -116,6 +117,8 @@ pub enum Answer {
     AdvancedLse { lse: u64 },
     Rewritten { rows: usize },
     Skipped { rows: usize },
+    Saved { bytes: usize },
+    Recovered,
     Refused(Refusal),
 }
 
@@ -134,8 +137,9 @@ pub enum ManagerCall {
     AdvanceLse { target: u64 },
 }
 
-// A call as a number of words: what a session's line names, and what the dispatcher takes. The rows of an append and
-// the bitmap of a scan are lent beside it.
+// A call as a number of words: what the dispatcher takes, and but for the last two what a session's line names. The
+// rows of an append are lent beside it, and bytes: the bitmap of a scan, the output of a save (02 (v)), the file of a
+// recovery.
 pub enum Command {
     Create { start: u64 },
     Manage(ManagerCall),
@@ -144,4 +148,6 @@ pub enum Command {
     RollBack { txn: u64 },
     Scan { reader: Reader, partition: u64 },
     Purge { partition: u64 },
+    Save { epoch: u64 },
+    Recover,
 }

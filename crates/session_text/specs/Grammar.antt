@@ -10,6 +10,7 @@ use lib.Dec.{ltb, leb, eqb}
 use Rattle.lists.specs.Lists.{allOf}
 use Rattle.rules.specs.declared.Command.{Command}
 use Rattle.rules.specs.declared.Command.the-variants.{Create, Manage, Append, Clear, RollBack, Scan, Purge}
+use Rattle.rules.specs.declared.Command.the-variants.{Save, Recover}
 use Rattle.rules.specs.declared.ManagerCall.{ManagerCall}
 use Rattle.rules.specs.declared.ManagerCall.the-variants.{Begin, Commit, BeginRo, EndRo, AdvanceLse}
 use Rattle.rules.specs.declared.Reader.the-variants.{Rw, Ro}
@@ -20,7 +21,7 @@ use Rattle.session_text.specs.declared.Parsed.the-variants.{Call, Bad}
 abbrev pub lineMax : ℕ
 lineMax = 16384
 
--- ---- the letter of a call
+-- ---- the letter of a call: no line names making new, saving or recovery, which have theirs for their answers
 
 abbrev pub managerLetter : ManagerCall → ℕ
 managerLetter Begin = 66
@@ -37,6 +38,8 @@ letterOf (Clear i p) = 68
 letterOf (RollBack i) = 88
 letterOf (Scan r p) = 83
 letterOf (Purge p) = 80
+letterOf (Save e) = 75
+letterOf Recover = 86
 
 -- ---- words, parted by one blank: two blanks have an empty word between them
 

@@ -45,6 +45,8 @@ pub fn letter_of(command: Command) -> u8
             partition: _,
         } => b'S',
         Command::Purge { partition: _ } => b'P',
+        Command::Save { epoch: _ } => b'K',
+        Command::Recover => b'V',
     }
 }
 

@@ -1,6 +1,7 @@
 -- Calls of functions of the shapes, by kind: books are passed, entries and rows are lent as `&` or as `&mut`, perhaps
--- with a batch or a bitmap, and values of plain types follow.
---     Kind             what is lent: a Look's, a Shape's without and with a batch, a Scan's with its bitmap
+-- with a batch or with bytes, and values of plain types follow.
+--     Kind             what is lent: a Look's, a Shape's without and with a batch, a Scan's with its bitmap (a save's
+--                      output), a Recover's with its file
 --     Lenders          the four slices that a caller has
 --     loans, Calls     the slices that a call of a kind is lent, and its signature
 --     Slices           the four slices, as the caller holds them.        called       the call
@@ -42,9 +43,10 @@ pub data Kind : Type 0 where
   write : Kind
   batch : Kind
   bitmap : Kind
+  file : Kind
 
 -- ---- the tables
--- entries, rows, batch and bitmap
+-- entries, rows, batch and bytes
 pub record Lenders : Type 2 where
   pub x₁ : Lent T.the-row
   pub x₂ : Lent u64
@@ -54,7 +56,7 @@ pub record Lenders : Type 2 where
   pub room₂ : Room u64 (length (x₂ .list))
   pub room₄ : Room u8 (length (x₄ .list))
 
--- entries, rows and bitmap after a call
+-- entries, rows and bytes after a call
 abbrev pub Lists : Type 0
 Lists = List Entry × List ℕ × List ℕ
 
@@ -65,6 +67,8 @@ module _ (y : Lenders) where
   loans batch = writing (named 0) (y .x₁) (y .room₁) ∷ writing (named 1) (y .x₂) (y .room₂) ∷ copying (y .x₃) ∷ []
   loans bitmap = reading (named 0) (y .x₁) (y .room₁) ∷ reading (named 1) (y .x₂) (y .room₂) ∷ writing (named 3) (y .x₄)
       (y .room₄) ∷ []
+  loans file = writing (named 0) (y .x₁) (y .room₁) ∷ writing (named 1) (y .x₂) (y .room₂) ∷ reading (named 3) (y .x₄)
+      (y .room₄) ∷ []
 
   abbrev slots : (k : Kind) → List (Slot (count (loans k)))
   slots look = shrSliceOf (0 ∷ []) tt (plain (λ _. T.the-row)) ∷ shrSliceOf (1 ∷ []) tt (plain (λ _. u64)) ∷ []
@@ -73,6 +77,8 @@ module _ (y : Lenders) where
       shrSliceOf (2 ∷ []) tt (plain (λ _. u64)) ∷ []
   slots bitmap = shrSliceOf (0 ∷ []) tt (plain (λ _. T.the-row)) ∷ shrSliceOf (1 ∷ []) tt (plain (λ _. u64)) ∷
       mutSliceOf (2 ∷ []) tt (plain (λ _. u8)) ∷ []
+  slots file = mutSliceOf (0 ∷ []) tt (plain (λ _. T.the-row)) ∷ mutSliceOf (1 ∷ []) tt (plain (λ _. u64)) ∷
+      shrSliceOf (2 ∷ []) tt (plain (λ _. u8)) ∷ []
 
   -- the operands between the rows and the numbers
   abbrev pub besides : Kind → List Val
@@ -80,12 +86,14 @@ module _ (y : Lenders) where
   besides write = []
   besides batch = held (y .x₃) ∷ []
   besides bitmap = held (y .x₄) ∷ []
+  besides file = held (y .x₄) ∷ []
 
   abbrev pub leftBy : (k : Kind) → Endss (loans k) → Lists
   leftBy look zs = (y .x₁ .list, y .x₂ .list, y .x₄ .list)
   leftBy write zs = (zs .0, zs .1 .0, y .x₄ .list)
   leftBy batch zs = (zs .0, zs .1 .0, y .x₄ .list)
   leftBy bitmap zs = (y .x₁ .list, y .x₂ .list, zs .1 .1 .0)
+  leftBy file zs = (zs .0, zs .1 .0, y .x₄ .list)
 
   abbrev pub AsLong : Lists → Type 0
   AsLong ls = (length (ls .0) ≡ length (y .x₁ .list)) × (length (ls .1) ≡ length (y .x₂ .list)) × (length (ls .2) ≡
@@ -96,6 +104,7 @@ module _ (y : Lenders) where
   as-long write zs e = (e .0, e .1 .0, refl)
   as-long batch zs e = (e .0, e .1 .0, refl)
   as-long bitmap zs e = (refl, refl, e .1 .1 .0)
+  as-long file zs e = (e .0, e .1 .0, refl)
 
   abbrev pub Slices : {M : Type 1} {𝓤 : URA M} → Lists → List (Item 𝓤)
   Slices ls = ‵ (fsep (token (y .x₁)) (mutAt (named 0) (y .x₁) (ls .0))) ∷ ‵ (fsep (token (y .x₂)) (mutAt (named 1) (y
@@ -109,6 +118,7 @@ module _ (y : Lenders) where
       .list)))
   rest batch = fsep (token (y .x₄)) (mutAt (named 3) (y .x₄) (y .x₄ .list))
   rest bitmap = fsep (token (y .x₃)) (shr (y .x₃))
+  rest file = fsep (token (y .x₃)) (shr (y .x₃))
 
   module _ {M : Type 1} {𝓤 : URA M} {H : Heap 𝓤} {A : Atoms 𝓤} {W : Given 𝓤 H A} {Γ : List (Item 𝓤)} {G : Goal 𝓤 H}
       where
@@ -120,6 +130,7 @@ module _ (y : Lenders) where
         $ s
     parts batch s = gathers ! (loans batch) (nows (loans batch)) $ s
     parts bitmap s = move ! (0 ∷ 1 ∷ 3 ∷ []) $ gathers ! (loans bitmap) (nows (loans bitmap)) $ s
+    parts file s = move ! (0 ∷ 1 ∷ 3 ∷ []) $ gathers ! (loans file) (nows (loans file)) $ s
 
     joins : (k : Kind) (zs : Endss (loans k)) → Sq W (Slices (leftBy k zs) ++ Γ) G
         → Sq W (‵ (Helds (loans k) zs) ∷ ‵ (rest k) ∷ Γ) G
@@ -127,6 +138,7 @@ module _ (y : Lenders) where
     joins write zs s = scatters ! (loans write) zs $ move ! (2 ∷ []) $ fsplit ! $ move ! (2 ∷ 3 ∷ []) $ s
     joins batch zs s = scatters ! (loans batch) zs $ s
     joins bitmap zs s = scatters ! (loans bitmap) zs $ move ! (0 ∷ 1 ∷ 3 ∷ []) $ s
+    joins file zs s = scatters ! (loans file) zs $ move ! (0 ∷ 1 ∷ 3 ∷ []) $ s
 
   module _ (Q : Shown) (bk : State) (ps : List Shown) (t : Nums 0 tt ps) where
     abbrev params : (k : Kind) → List (Slot (count (loans k)))
@@ -153,6 +165,8 @@ module _ (y : Lenders) where
         given 3 (lfts (loans batch) g)))))
     args bitmap g = (bk, (refOf (again (y .x₁) 0 (g .0 .1)), (refOf (again (y .x₂) 0 (g .1 .0 .1)), (refOf (again (y
         .x₄) 0 (g .1 .1 .0 .1)), given 3 (lfts (loans bitmap) g)))))
+    args file g = (bk, (refOf (again (y .x₁) 0 (g .0 .1)), (refOf (again (y .x₂) 0 (g .1 .0 .1)), (refOf (again (y
+        .x₄) 0 (g .1 .1 .0 .1)), given 3 (lfts (loans file) g)))))
 
     abbrev argVals : (k : Kind) (g : Mades (loans k)) → Valss (typesAt (params k) (lfts (loans k) g))
     argVals look g = (books bk ∷ [], (valOf (y .x₁), (valOf (y .x₂), spelled 2 (lfts (loans look) g))))
@@ -161,12 +175,15 @@ module _ (y : Lenders) where
         g)))))
     argVals bitmap g = (books bk ∷ [], (valOf (y .x₁), (valOf (y .x₂), (valOf (y .x₄), spelled 3 (lfts (loans bitmap)
         g)))))
+    argVals file g = (books bk ∷ [], (valOf (y .x₁), (valOf (y .x₂), (valOf (y .x₄), spelled 3 (lfts (loans file)
+        g)))))
 
     abbrev ends : (k : Kind) (g : Mades (loans k)) → Lasts (Calls k) (lfts (loans k) g) (args k g) → Endss (loans k)
     ends look g ws = (tt, (tt, tt))
     ends write g ws = (ws .1 .0, (ws .1 .1 .0, tt))
     ends batch g ws = (ws .1 .0, (ws .1 .1 .0, (tt, tt)))
     ends bitmap g ws = (tt, (tt, (ws .1 .1 .1 .0, tt)))
+    ends file g ws = (ws .1 .0, (ws .1 .1 .0, (tt, tt)))
 
     into : (k : Kind) (g : Mades (loans k)) → fsep (K.the-row .own bk (books bk ∷ [])) (Passeds (loans k) g (Owned
         (count (loans k)) (lfts (loans k) g))) ≡ owns (typesAt (params k) (lfts (loans k) g)) (args k g) (argVals k g)
@@ -174,6 +191,7 @@ module _ (y : Lenders) where
     into write g = refl
     into batch g = refl
     into bitmap g = refl
+    into file g = refl
 
     from : (k : Kind) (g : Mades (loans k)) (ws : Lasts (Calls k) (lfts (loans k) g) (args k g)) → (P : Fml) × (lasts
         (Calls k) (lfts (loans k) g) (args k g) ws ≡ fsep ftrue (Lefts (loans k) g (ends k g ws) P))
@@ -181,6 +199,7 @@ module _ (y : Lenders) where
     from write g ws = (_, refl)
     from batch g ws = (_, refl)
     from bitmap g ws = (_, refl)
+    from file g ws = (_, refl)
 
     flats : (k : Kind) (g : Mades (loans k)) → books bk ∷ held (y .x₁) ∷ held (y .x₂) ∷ (besides k ++ vals 0 tt ps t)
         ≡ flat (typesAt (params k) (lfts (loans k) g)) (argVals k g)
@@ -191,6 +210,8 @@ module _ (y : Lenders) where
     flats bitmap g = ap (λ (vs : List Val). books bk ∷ held (y .x₁) ∷ held (y .x₂) ∷ held (y .x₄) ∷ vs) (vals-moved 0
         tt 3
         _ ps t)
+    flats file g = ap (λ (vs : List Val). books bk ∷ held (y .x₁) ∷ held (y .x₂) ∷ held (y .x₄) ∷ vs) (vals-moved 0 tt
+        3 _ ps t)
 
     -- what the callee's `ensures` gives
     abbrev pub Tells-of : {M : Type 1} (𝓤 : URA M) (H : Heap 𝓤) (A : Atoms 𝓤) (C : Table 𝓤 H) (f : Name) (k : Kind)

@@ -1,9 +1,9 @@
--- A public function that scans, and its walk: books, entries: &[Entry], rows: &[u64], bitmap: &mut [u8], and values.
--- It asks whether the lots are sound, loads what it needs of one partition, plans by value, writes the bitmap by the
--- plan, and answers.
+-- A public function that writes bytes, and its walk: books, entries: &[Entry], rows: &[u64], bitmap: &mut [u8], and
+-- values. It asks whether the lots are sound, loads what it needs of the entries, plans by value, writes the bytes by
+-- the plan, or by the rows and the plan, and answers. A scan is one, and so is a save, whose bytes are a checkpoint.
 --     Scan             such a function: the types of its plan and of its answer, its values, its callees, what they
 --                      yield, and what its contract says. `planOf` takes the books, whether the lots are sound, what is
---                      loaded, and the bitmap's length
+--                      loaded, and the bitmap's length. Extent.antt says what `extent` and `fromRows` choose
 --     function         its MIR, by the symbols of its callees.        ended, clauses    its contract
 --     Loads, Core, Wrote, Fin     the contracts of its callees
 --     meets            the MIR meets the contract, where the callees meet theirs
@@ -46,7 +46,6 @@ use denote.Triple.Walked.{walked, walk-meets, hasOf}
 use denote.Exit.{yes}
 use Rattle.rules.specs.declared.Entry.{Entry}
 use Rattle.rules.specs.declared.State.{State}
-use Rattle.rules.specs.declared.Partitions.{Partitions}
 use Rattle.rules.proofs.Entry as T
 use Rattle.rules.proofs.State as K
 use Rattle.rules.proofs.State.Laws as K′
@@ -57,11 +56,13 @@ use Rattle.walks.proofs.Lend.{Lent, lent-by, token, shr, mutAt, refOf, valOf, r
 use Rattle.walks.proofs.Values.{drops, lastly, no-fit, had, drops-go, values, keeps, quiet, tys, Of, copies, Nums}
 use Rattle.walks.proofs.Values.{applied, spells, spelt, vals, Fits, tells, typed, moved, fits-moved, args-after}
 use Rattle.walks.proofs.Shown.{Shown, number, flag}
-use Rattle.walks.proofs.Calls.{Yields, yield-call, find-call, Leaves, leave-call}
-use Rattle.shapes.proofs.Core.{state, partitions, books, Ask, askedParts, partsOf, askedFields, asksOf, restOf}
+use Rattle.walks.proofs.Calls.{Yields, yield-call, Finds, find-call}
+use Rattle.shapes.proofs.Core.{state, books, Ask, askedParts, partsOf, askedFields, asksOf, restOf}
 use Rattle.shapes.proofs.Core.{Asks, Rests, in-books, ask-args, partitions-arg}
 use Rattle.shapes.proofs.Two.{find2-call}
-use Rattle.shapes.proofs.Load.{Key, LotLoads}
+use Rattle.shapes.proofs.Extent.{Extent, behind, handTys, hands, handed, hand-fits, hand-args, rowed, onward}
+use Rattle.shapes.proofs.Extent.{Written, writing}
+use Rattle.shapes.proofs.Tail.{With}
 
 pub record Scan : Type 2 where
   pub asks : Ask
@@ -69,20 +70,21 @@ pub record Scan : Type 2 where
   pub plan : Shown
   pub answer : Shown
   pub given : List Shown
-  pub key : Key given
+  pub extent : Extent given
+  pub fromRows : Bool
   pub load : Name
   pub core : Name
   pub wr : Name
   pub fin : Name
-  pub loadOf : List Entry → Partitions → ℕ → loaded .row .Denot
+  pub loadOf : List Entry → Of (handTys extent) (loaded .row .Denot)
   pub planOf : State → Bool → loaded .row .Denot → Of (number ∷ given) (plan .row .Denot)
-  pub bytesBy : List ℕ → plan .row .Denot → List ℕ
+  pub bytesBy : List ℕ → With fromRows (plan .row .Denot → List ℕ)
   pub answerOf : plan .row .Denot → answer .row .Denot
   pub Ends : State → List Entry → List ℕ → List ℕ → Of given (answer .row .Denot → List ℕ → Type 0)
   pub ends : (s : State) → Is K.the-row s (books s ∷ []) → (es : List Entry) (rs bs : List ℕ) (κs : Lfts 3) (t : Nums 3
-      κs given) → let w = applied 0 tt (number ∷ given) (planOf s (restOf asks s es rs) (loadOf es (s .partitions)
-      (key .of 3 κs t))) (length bs, moved 3 κs 0 tt given t) in applied 3 κs given (Ends s es rs bs) t
-      (answerOf w) (bytesBy bs w)
+      κs given) → let w = applied 0 tt (number ∷ given) (planOf s (restOf asks s es rs) (applied 1 (κs .0, tt) (handTys
+      extent) (loadOf es) (handed s κs t (κs .0) extent))) (length bs, moved 3 κs 0 tt given t) in applied 3 κs given
+      (Ends s es rs bs) t (answerOf w) (rowed fromRows (bytesBy bs) rs w)
 
 abbrev word : Ty
 word = tyInt w64
@@ -97,10 +99,6 @@ temps q X P = word ∷ q .asked .mir ∷ tyBool ∷ X .mir ∷ P .mir ∷ tyUnit
 
 abbrev temp : List Shown → ℕ → ℕ
 temp n i = suc (past (asLocals (params n)) i)
-
--- the values stand behind the bitmap
-abbrev behind : ℕ → ℕ
-behind i = suc (suc (suc (suc i)))
 
 module _ (sh : Scan) where
   abbrev q : Ask
@@ -128,12 +126,12 @@ module _ (sh : Scan) where
       (seq (call (q .ask) askedFields (place (temp n 1) []))
       (seq (call (q .rest) (copy (place 2 []) ∷ copy (place 3 []) ∷ copy (place (temp n 1) []) ∷ []) (place (temp n 2)
           []))
-      (seq (call (sh .load) (copy (place 2 []) ∷ copy (place 1 (field 4 ∷ [])) ∷ copy (place (suc (behind (sh .key
-          .local))) []) ∷ []) (place (temp n 3) []))
+      (seq (call (sh .load) (copy (place 2 []) ∷ hands (sh .extent)) (place (temp n 3) []))
       (seq (call (sh .core) (copy (place 1 []) ∷ copy (place (temp n 2) []) ∷ copy (place (temp n 3) []) ∷ copy (place
           (temp n 0) []) ∷ copies 4 n) (place (temp n 4) []))
       (reborrow 4 (temp n 6) (temp n 7) (tyInt w8)
-      (seq (call (sh .wr) (copy (place (temp n 7) []) ∷ copy (place (temp n 4) []) ∷ []) (place (temp n 5) []))
+      (seq (call (sh .wr) (onward (sh .fromRows) (copy (place (temp n 7) [])) (copy (place 3 [])) (copy (place (temp n
+          4) []))) (place (temp n 5) []))
       (seq (call (sh .fin) (copy (place (temp n 4) []) ∷ []) (place 0 [])) return)))))));
   }
 
@@ -155,13 +153,13 @@ module _ (sh : Scan) where
         (a .0) (a .1 .0 .now) (a .1 .1 .0 .now) (a .1 .1 .1 .0 .now)) (a .1 .1 .1 .1) r (e .1 .1 .1 .0 .now)) }
 
     abbrev pub Loads : (H : Heap 𝓤) (A : Atoms 𝓤) → Contract 𝓤
-    Loads = LotLoads X (sh .loadOf) 𝓤
+    Loads = Finds 𝓤 X (handTys (sh .extent)) T.the-row (sh .loadOf)
 
     abbrev pub Core : (H : Heap 𝓤) (A : Atoms 𝓤) → Contract 𝓤
     Core = Yields 𝓤 P (state ∷ flag ∷ X ∷ number ∷ n) (sh .planOf)
 
     abbrev pub Wrote : (H : Heap 𝓤) (A : Atoms 𝓤) → Contract 𝓤
-    Wrote = Leaves 𝓤 u8 (P ∷ []) (sh .bytesBy)
+    Wrote = Written P 𝓤 (sh .fromRows) (sh .bytesBy)
 
     abbrev pub Fin : (H : Heap 𝓤) (A : Atoms 𝓤) → Contract 𝓤
     Fin = Yields 𝓤 Q (P ∷ []) (sh .answerOf)
@@ -191,11 +189,11 @@ module _ (sh : Scan) where
       abbrev passed : List Val
       passed = books s ∷ held x₁ ∷ held x₂ ∷ held x₃ ∷ vals 3 κs n t
 
-      abbrev j : ℕ
-      j = sh .key .of 3 κs t
+      abbrev h : Nums 1 (x₁ .lft, tt) (handTys (sh .extent))
+      h = handed s κs t (x₁ .lft) (sh .extent)
 
       abbrev z : X .row .Denot
-      z = sh .loadOf (x₁ .list) (s .partitions) j
+      z = applied 1 (x₁ .lft, tt) (handTys (sh .extent)) (sh .loadOf (x₁ .list)) h
 
       abbrev ok : Bool
       ok = restOf q s (x₁ .list) (x₂ .list)
@@ -210,7 +208,7 @@ module _ (sh : Scan) where
       ans = sh .answerOf p
 
       abbrev bs′ : List ℕ
-      bs′ = sh .bytesBy (x₃ .list) p
+      bs′ = rowed (sh .fromRows) (sh .bytesBy (x₃ .list)) (x₂ .list) p
 
       abbrev Post : Val → SProp 𝓤
       Post = walkOf 𝓤 H A ended stayed (clauses 𝓤) .post ((κs, qs, tt, x, xvs), tt)
@@ -269,11 +267,11 @@ module _ (sh : Scan) where
                   (λ _ _ _. and-then ! (get ! 3 1 refl refl refl) (and-then ! (get ! 3 2 refl refl refl) (and-then !
                   (get ! 4 1 refl (at-t 1) refl) (no-more !)))) (λ gf.
               land ! (spot ! (at-t 2) (stop !)) (sets ! 5 2 refl tt (tt, tt)) $
-              find-call fm T.the-row X (partitions ∷ number ∷ []) (sh .loadOf) known-load x₁ (s .partitions, (j, tt))
-                  (in-books s gs .1 .1 .0, (sh .key .fits 3 κs t ft, tt)) (λ _ _. and-then ! (get ! 4 1 refl refl refl)
-                  (and-then ! (partitions-arg ! 4 s refl refl refl refl) (and-then ! (get ! 4 (behind (sh .key .local))
-                  refl (lies-in 𝓤 H (params n) passed ps _ (behind (sh .key .local)) _ well (sh .key .has 3 κs t)) (sh
-                  .key .has 3 κs t)) (no-more !)))) (λ gx.
+              find-call fm T.the-row X (handTys (sh .extent)) (sh .loadOf) known-load x₁ h (hand-fits s κs t (x₁ .lft)
+                  (sh .extent) gs ft) (λ _ _. and-then ! (get ! 4 1 refl refl refl) (hand-args s κs t (x₁ .lft) (sh
+                  .extent) (partitions-arg ! 4 s refl refl refl refl) (λ k. get ! 4 (behind (k .local)) refl
+                  (lies-in 𝓤 H (params n) passed ps _ (behind (k .local)) _ well (k .has 3 κs t)) (k .has 3 κs t)))) (λ
+                  gx.
               land ! (spot ! (at-t 3) (stop !)) (sets ! 5 3 refl tt (X .wt 𝓤 H A W z gx)) $
               yield-call fm P (state ∷ flag ∷ X ∷ number ∷ n) (sh .planOf) known-core (s, (ok, (z, ms))) (gs, (refl,
                   (gx, ((refl, r₃ .0), fits-moved 3 κs 0 tt n t ft)))) (λ _. and-then ! (get ! 5 0 refl refl refl)
@@ -286,18 +284,16 @@ module _ (sh : Scan) where
               assigns ! (agg ! (and-then ! (get ! 5 6 refl (at-t 6) refl) (and-then ! (load ! (from ! (fld ! refl (stop
                   !))) (look-in ! 4 (sub ! 1 refl (within ! 3 refl)))) (no-more !)))) (spot ! (at-t 7) (stop !)) (sets !
                   5 7 refl tt (tt, (tt, (record { fits = r₃ .0 }, tt)))) $
-              move ! (6 ∷ 7 ∷ 4 ∷ 5 ∷ []) $
-              leave-call fm u8 (P ∷ []) (sh .bytesBy) known-wr (named 2) x₃ r₃ (λ _. (p, tt)) (λ _. (gp, tt)) bs′ (λ
-                  _. refl)
-              (λ _ _ _. and-then ! (get ! 3 7 refl (at-t 7) refl) (and-then ! (get ! 3 4 refl (at-t 4) refl) (no-more
-                  !)))
-              (λ lb. land ! (spot ! (at-t 5) (stop !)) (sets ! 3 5 refl tt (tt, tt)) $
-              -- [the bitmap; the frames; the entries; the rows; room for the result]
-              yield-call fm Q (P ∷ []) (sh .answerOf) known-fin (p, tt) (gp, tt) (λ _. and-then ! (get ! 4 4 refl
+              move ! (6 ∷ 7 ∷ 2 ∷ 3 ∷ 4 ∷ 5 ∷ []) $
+              writing P fm (named 2) x₃ x₂ r₃ p gp (sh .fromRows) (sh .bytesBy) known-wr (λ _ _ _. get ! 4 7 refl (at-t
+                  7) refl) (λ _ _ _. get ! 3 2 refl refl refl) (λ _ _ _. get ! 4 4 refl (at-t 4) refl) (λ lb.
+              land ! (spot ! (at-t 5) (stop !)) (sets ! 4 5 refl tt (tt, tt)) $
+              -- [the bitmap; the rows' token; the frames; the entries; room for the result]
+              yield-call fm Q (P ∷ []) (sh .answerOf) known-fin (p, tt) (gp, tt) (λ _. and-then ! (get ! 5 4 refl
                   (at-t 4) refl) (no-more !)) (λ gz.
-              land ! (from ! (stop !)) (init ! 8 refl (Q .wt 𝓤 H A W ans gz)) $
-              returns ! (look ! 8 refl) $ forget ! 8 refl $ move ! (8 ∷ 9 ∷ 2 ∷ 3 ∷ []) $ free1 ! $
-              frees-frame ! Params _ $ frees-frame ! Temps [] $ free0 ! $ keep ! (0 ∷ 1 ∷ 2 ∷ 4 ∷ []) $ by ! (exits
+              land ! (from ! (stop !)) (init ! 7 refl (Q .wt 𝓤 H A W ans gz)) $
+              returns ! (look ! 7 refl) $ forget ! 7 refl $ move ! (7 ∷ 8 ∷ 3 ∷ 4 ∷ []) $ free1 ! $
+              frees-frame ! Params _ $ frees-frame ! Temps [] $ free0 ! $ keep ! (0 ∷ 1 ∷ 3 ∷ 2 ∷ []) $ by ! (exits
                   gs lb gz)))))))
 
         walk : ent 𝓤 (onEntry 𝓤 H A (ended .signature) κs qs x xvs) (WpFn 𝓤 H (𝓣 .C) (𝓣 .Λ) function passed Post)

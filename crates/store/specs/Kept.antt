@@ -39,7 +39,7 @@ Left out r rows entries = (r .answer ≡ out .answer) × (storeOf (r .state) row
 
 -- a scan answers what step says and leaves these bytes; the store st that it read is step's at the end too
 abbrev pub Showed : Outcome → Answer → List ℕ → Store → Type 0
-Showed out r bytes st = (r ≡ out .answer) × (bytes ≡ out .bitmap) × (st ≡ out .store)
+Showed out r bytes st = (r ≡ out .answer) × (bytes ≡ out .bytes) × (st ≡ out .store)
 
 -- ---- calls on the manager
 

@@ -1,7 +1,6 @@
 // Making new, and the calls on the manager, decided by value.
 ghost use mathlib.Core.Path.{_≡_};
 ghost use Rattle.rules.specs.Store.{freshPartitions};
-ghost use Rattle.partition_sound.specs.Asked.{lengthsAre};
 ghost use Rattle.rules.specs.Answers.{accepted};
 ghost use Rattle.rules.specs.declared.ManagerCall.the-variants.{Commit};
 ghost use Rattle.store.specs.Kept.{createKept, managerKept, rollBackKept, landedKept, restKept};
@@ -20,9 +19,7 @@ use rules::Partitions;
 use rules::Refusal;
 use rules::RwTxns;
 use rules::State;
-use rules::limits::ENTRIES_LENT;
 use rules::limits::PARTITIONS_MAX;
-use rules::limits::ROWS_LENT;
 
 // A call on the manager; rest says whether the rest of the store is sound.
 pub fn manage_core(state: State, rest: bool, call: ManagerCall) -> Kept
@@ -164,20 +161,10 @@ pub(crate) fn fresh() -> Partitions
     }
 }
 
-// n entries and m rows are lent.
-fn lengths_ok(n: usize, m: usize) -> bool
-    ensures { λ r. ⌜ r ≡ lengthsAre n m ⌝ }
-{
-    if m != ROWS_LENT {
-        return false;
-    }
-    n == ENTRIES_LENT
-}
-
 pub fn create_core(state: State, n: usize, m: usize, a: u64) -> Kept
     ensures { λ r. ⌜ r ≡ createKept state n m a ⌝ }
 {
-    if !lengths_ok(n, m) {
+    if !partition_sound::lengths_ok(n, m) {
         return Kept {
             state: state,
             answer: Answer::Refused(Refusal::Unsound),

@@ -3,3 +3,4 @@ pub mod Tallied
 pub mod Weighs
 pub mod Lot
 pub mod Lands
+pub mod Page

@@ -1,5 +1,5 @@
 -- Some epochs, the greatest clearing among them, and the rows that it leaves. 01 "Who sees a row".
--- In order: inReach, the greatest clearing by one pass, cutOf, cutsOf, shows. Laws: proofs/Laws/Weighs.antt.
+-- In order: inReach, pageReach, the greatest clearing by one pass, cutOf, cutsOf, shows. Laws: proofs/Laws/Weighs.antt.
 -- Assumes nothing.
 use mathlib.Core.Bool.{Bool, not, _&&_, cond}
 use Prim.Native.Nat.{ℕ}
@@ -15,6 +15,10 @@ use Rattle.totals.specs.declared.Cuts.{Cuts}
 
 unfoldable pub inReach : Reach → ℕ → Bool
 inReach r j = ltb (r .over) j && leb j (r .high) && not (eqb j (r .gone))
+
+-- those that a read-only transaction (01: page) at e sees
+abbrev pub pageReach : ℕ → Reach
+pageReach e = record { over = 0; high = e; gone = 0 }
 
 abbrev pub noTop : Top
 noTop = record { epoch = 0; edge = 0 }

@@ -25,7 +25,7 @@ pub fn no_tally() -> Tally
 }
 
 // The rows of epoch j that begin at row n.
-fn is_shown(c: Cut, n: usize, j: u64) -> bool
+pub fn is_shown(c: Cut, n: usize, j: u64) -> bool
     ensures { λ r. ⌜ r ≡ shows c n j ⌝ }
 {
     if c.high < j {

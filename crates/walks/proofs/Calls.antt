@@ -4,6 +4,7 @@
 --     share-call           such a function, called with a `&mut [R]`, which is lent as a `&` for the call
 --     Leaves, leave-call   a function of a `&mut [R]` and of such values that answers nothing and leaves F of them: the
 --                          slice is lent again, and comes back so
+--     LeavesFrom, leave-from-call     the same with a `&[S]` behind the `&mut [R]`, which is passed as a copy
 --     plain-call, mut-call     the first and the last for any contract
 --     mut-with-call        mut-call with parameters at lifetimes of the caller, as slices that are passed on: i gives
 --                          them
@@ -26,7 +27,7 @@ use contract.Monad.{fact}
 use contract.Lifetimes.{Lfts, Shares, toks}
 use sound.WpLaws.{FmC}
 use types.Kit.{Given, Item, Go, ‵, raw, _⊛_, mean, Post, runs, lands, Sq, _$_, !, move, use0, use1, drop}
-use types.Kit.{split, join, rewrite, fsplit, fjoin, feqL}
+use types.Kit.{split, join, rewrite, fsplit, fjoin, feqL, _∵_, qed, done}
 use types.Run.{Opds}
 use denote.RattleType.{RattleType, owns, Denots, Valss}
 use denote.Laws.{Is, Tells}
@@ -41,7 +42,7 @@ use denote.Triple.Clauses.{Ended, Clauses, Lasts, atExit}
 use Rattle.walks.proofs.Lend.{Lent, again, token, mutAt, shr, refOf, valOf, held, lends, back, shares}
 use Rattle.walks.proofs.Lend.{back-shared, copies, calling, Met, answered}
 use Rattle.walks.proofs.Shown.{Shown}
-use Rattle.walks.proofs.Values.{values, keeps, Of, Nums, applied, spelt, vals, Fits, has-values}
+use Rattle.walks.proofs.Values.{values, keeps, Of, Nums, applied, spelt, vals, Fits, has-values, own-values}
 
 abbrev pub Plainly : RattleType → (ps : List (Slot 0)) → Kepts ps → Ended
 Plainly R ps ks = record { signature = record { lifetimes = 0; outlives = []; params = ps; result = plain (λ _. R) };
@@ -82,6 +83,21 @@ module _ {M : Type 1} (𝓤 : URA M) (R : RattleType) (ps : List Shown) (F : Lis
 
   abbrev pub Leaves : (H : Heap 𝓤) (A : Atoms 𝓤) → Contract 𝓤
   Leaves H A = Met 𝓤 H A (Writes R 0 (values 1 ps) (keeps 1 ps)) leaves
+
+module _ {M : Type 1} (𝓤 : URA M) (R S : RattleType) (ps : List Shown) (F : List (R .Denot) → List (S .Denot) → Of ps
+    (List (R .Denot))) where
+  abbrev from-slots : List (Slot 2)
+  from-slots = shrSliceOf (1 ∷ []) tt (plain (λ _. S)) ∷ values 2 ps
+
+  abbrev from-keeps : Kepts from-slots
+  from-keeps = (yes, keeps 2 ps)
+
+  abbrev leaves-from : Clauses 𝓤 (Writes R 1 from-slots from-keeps)
+  leaves-from κs a = record { ghost = Unit {0}; requires = λ _. emp 𝓤; ensures = λ _ _ e. fact 𝓤 (e .0 .now ≡ applied 2
+      κs ps (F (a .0 .now) (a .1 .0 .now)) (a .1 .1)) }
+
+  abbrev pub LeavesFrom : (H : Heap 𝓤) (A : Atoms 𝓤) → Contract 𝓤
+  LeavesFrom H A = Met 𝓤 H A (Writes R 1 from-slots from-keeps) leaves-from
 
 -- what the callee says of its result
 lands-as : {M : Type 1} {𝓤 : URA M} {H : Heap 𝓤} {A : Atoms 𝓤} {W : Given 𝓤 H A} {Γ : List (Item 𝓤)} {E : Env 𝓤 H} {C :
@@ -234,3 +250,30 @@ module _ {M : Type 1} {𝓤 : URA M} {H : Heap 𝓤} {A : Atoms 𝓤} {W : Given
       known ℓ x t (λ κs. spelt 1 κs ps (t κs)) (λ _ _. tt) room (λ κs _. has-values 𝓤 H A W 1 κs ps (t κs) (g κs)) zs
           (λ κs _ _ ws. subst (λ (z : List (R .Denot)). ent 𝓤 (fact 𝓤 (ws .0 ≡ applied 1 κs ps (F (x .list)) (t
       κs))) (fact 𝓤 (ws .0 ≡ z))) (is-zs κs) (id⊢ 𝓤 _)) (λ α _. os (α ∷ [], tt)) k
+
+module _ {M : Type 1} {𝓤 : URA M} {H : Heap 𝓤} {A : Atoms 𝓤} {W : Given 𝓤 H A} {Γ : List (Item 𝓤)} {E : Env 𝓤 H} {C :
+    Calls 𝓤 H} {Λ : Loops 𝓤 H} {q : Post 𝓤 H} {f : Name} {xs : List Operand} {d : Place} {rest : Body} where
+  pub leave-from-call : FmC 𝓤 H (W .laws) C → (R S : RattleType) (ps : List Shown) (F : List (R .Denot) → List (S
+      .Denot) → Of ps (List (R .Denot))) → Triple 𝓤 (C f) (LeavesFrom 𝓤 R S ps F H A)
+      → (ℓ : Lifetime) (x : Lent R) (y : Lent S) → Room R (length (x .list)) → (t : (κs : Lfts 2) → Nums 2 κs ps)
+      → ((κs : Lfts 2) → Fits 2 κs ps (t κs)) → (zs : List (R .Denot)) → ((κs : Lfts 2) → applied 2 κs ps (F (x .list)
+          (y .list)) (t κs) ≡ zs)
+      → ((κs : Lfts 2) (i j l : Item 𝓤) → Opds (Go {0}) W (i ∷ j ∷ l ∷ Γ) E xs (held x ∷ held y ∷ vals 2 κs ps (t κs)))
+      → (length zs ≡ length (x .list) → Sq W (‵ (token x) ∷ ‵ (mutAt ℓ x zs) ∷ ‵ (token y) ∷ ‵ (shr y) ∷ Γ) (lands C Λ E
+          d vunit rest q))
+      → Sq W (‵ (token x) ∷ ‵ (mutAt ℓ x (x .list)) ∷ ‵ (token y) ∷ ‵ (shr y) ∷ Γ) (runs C Λ E (seq (call f xs d) rest)
+          q)
+  leave-from-call fm R S ps F known ℓ x y room t g zs is-zs os k =
+      move ! (3 ∷ []) $ copies ! y $ nothing ! $ move ! (5 ∷ 0 ∷ []) $ join ! $
+      use1 W (raw (toks 𝓤 A 1 (y .lft, tt) (y .share, tt))) (id⊢ 𝓤 _) $
+      -- [the second token; the second slice, twice; the first token; the first slice]
+      move ! (3 ∷ 4 ∷ 0 ∷ 1 ∷ 2 ∷ []) $
+      mut-with-call fm R 1 (from-slots 𝓤 R S ps F) (from-keeps 𝓤 R S ps F) (leaves-from 𝓤 R S ps F) known ℓ x (y .lft,
+          tt) (y .share, tt) (λ κs. (refOf y, t κs)) (λ κs. (valOf y, spelt 2 κs ps (t κs))) (λ _ _. tt) room (λ α _.
+          let κs : Lfts 2 = (α ∷ [], (y .lft, tt)) in
+      qed W (‵ (shr y) ∷ []) ∵ nothing ! $ use0 W (‵ (owns (typesAt {n = 2} (values 2 ps) κs) (t κs) (spelt 2 κs ps (t
+          κs)))) (own-values 𝓤 H A W 2 κs ps (t κs) (g κs)) $ move ! (2 ∷ 0 ∷ []) $ fjoin ! $ done !) zs
+          (λ κs _ _ ws. subst (λ (z : List (R .Denot)). ent 𝓤 (fact 𝓤 (ws .0 ≡ applied 2 κs ps (F (x .list) (y .list))
+          (t κs))) (fact 𝓤 (ws .0 ≡ z))) (is-zs κs) (id⊢ 𝓤 _)) (λ α _ i j. os (α ∷ [], (y .lft, tt)) i j _) (λ len.
+      move ! (2 ∷ []) $ use1 W (‵ (token y) ⊛ ‵ ftrue) (id⊢ 𝓤 _) $ split ! $ move ! (1 ∷ []) $ drop ! $
+      move ! (1 ∷ 2 ∷ []) $ k len)

@@ -1,5 +1,5 @@
 -- `dispatch::turn` meets its contract: a walk of its MIR, by hand. The table's entries lie in a local array, which
--- is lent for the call of `dispatch` as the rows and the bitmap are, and read whole once the call has returned.
+-- is lent for the call of `dispatch` as the rows and the bytes are, and read whole once the call has returned.
 -- Assumes nothing.
 use mathlib.Core.Path.{_≡_, refl, sym, subst}
 use Prim.Native.Nat.{ℕ}

@@ -1,5 +1,5 @@
 -- What a call is to leave, of what the store's call left. Definitions: specs/Words.antt.
--- In order: a call with no part, a purge, a scan.
+-- In order: a call with no part, a purge, a scan or a save.
 -- Assumes nothing.
 use mathlib.Core.Path.{_≡_, refl, sym, _∙_, ap, subst}
 use mathlib.Core.Bool.{true}

@@ -10,18 +10,18 @@ use lib.ListN.{length}
 use Rattle.lists.proofs.Laws.Tests.{no-proof}
 use Rattle.rules.specs.Answers.{replyOf, valuesMax, accepted, livePart}
 use Rattle.rules.specs.declared.Refusal.{Refusal}
-use Rattle.rules.specs.declared.Refusal.the-variants.{UnknownPartition, NotOpen, ShortBitmap}
+use Rattle.rules.specs.declared.Refusal.the-variants.{UnknownPartition, NotOpen, ShortOutput}
 use Rattle.rules.specs.declared.Refusal.the-variants.{OutOfRange, Unsound, Exhausted, TxnsFull}
-use Rattle.rules.specs.declared.Refusal.the-variants.{RowsFull, EntriesFull, Blocked}
+use Rattle.rules.specs.declared.Refusal.the-variants.{RowsFull, EntriesFull, Blocked, Corrupt}
 use Rattle.rules.specs.declared.Answer.{Answer}
 use Rattle.rules.specs.declared.Answer.the-variants.{Created, Begun, Appended, Cleared, Closed, BegunRo}
 use Rattle.rules.specs.declared.Answer.the-variants.{EndedRo, Scanned, AdvancedLse, Rewritten, Skipped}
-use Rattle.rules.specs.declared.Answer.the-variants.{Refused}
+use Rattle.rules.specs.declared.Answer.the-variants.{Saved, Recovered, Refused}
 
 pub refused : (r : Refusal) → accepted (Refused r) ≡ false
 refused UnknownPartition = refl
 refused NotOpen = refl
-refused ShortBitmap = refl
+refused ShortOutput = refl
 refused OutOfRange = refl
 refused Unsound = refl
 refused Exhausted = refl
@@ -29,6 +29,7 @@ refused TxnsFull = refl
 refused RowsFull = refl
 refused EntriesFull = refl
 refused Blocked = refl
+refused Corrupt = refl
 
 -- ---- the cases of an answer, where only a refusal or only a purge matters
 
@@ -55,6 +56,8 @@ answer-cases P f w s o (Scanned n k) = o (Scanned n k) (plain refl (λ _ _. refl
 answer-cases P f w s o (AdvancedLse e) = o (AdvancedLse e) (plain refl (λ _ _. refl) (omega arith))
 answer-cases P f w s o (Rewritten n) = w n
 answer-cases P f w s o (Skipped n) = s n
+answer-cases P f w s o (Saved n) = o (Saved n) (plain refl (λ _ _. refl) (omega arith))
+answer-cases P f w s o Recovered = o Recovered (plain refl (λ _ _. refl) (omega arith))
 answer-cases P f w s o (Refused r) = f r
 
 pub refused-or : (P : Answer → Type 0) → ((r : Refusal) → P (Refused r)) → ((a : Answer) → accepted a ≡ true → P a)

@@ -27,7 +27,7 @@ use Rattle.laws.proofs.Laws.Views.{Fits, writers-length}
 
 -- ---- making new
 
-pub created-ok : (s : ℕ) → 1 ≤ s → s ≤ lastEpoch → managerOk (createdManager s) ≡ true
+pub created-ok : (s : ℕ) → 1 ≤ s → s ≤ suc lastEpoch → managerOk (createdManager s) ≡ true
 unfolding createdManager
 created-ok s low high = manager-ok (createdManager s) (record {
   clock = record { ec-low = low; ec-high = omega arith; lce-low = omega arith; lse-low = omega arith };

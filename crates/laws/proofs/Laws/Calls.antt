@@ -43,10 +43,10 @@ passed r true answer e = let z : _≡_ {A = Bool} false true = sym (refused r) �
     rest = cc }
 passed r false answer e = record { test = refl; is = refl; rest = e }
 
-within-low : (lo hi n : ℕ) → not (within lo hi n) ≡ false → lo ≤ n
+pub within-low : (lo hi n : ℕ) → not (within lo hi n) ≡ false → lo ≤ n
 within-low lo hi n e = leb-true lo n (and-left (leb lo n) (leb n hi) (not-false _ e))
 
-within-high : (lo hi n : ℕ) → not (within lo hi n) ≡ false → n ≤ hi
+pub within-high : (lo hi n : ℕ) → not (within lo hi n) ≡ false → n ≤ hi
 within-high lo hi n e = leb-true n hi (and-right (leb lo n) (leb n hi) (not-false _ e))
 
 -- ---- what each call passed

@@ -62,7 +62,7 @@ pub follows-create : (s : ℕ) (st : Store) → lengthsOk st ≡ true → 1 ≤ 
     st) (newLedger s)
 unfolding createdStore
 follows-create s st h lo hi = record {
-  ok = record { shape = created-ok s st h (createdManager-ok s lo hi); totals = totals-created s st };
+  ok = record { shape = created-ok s st h (createdManager-ok s lo (omega arith)); totals = totals-created s st };
   tracks = tracks-create s lo hi;
   places = refl;
   partition = λ p q. rw (created-spans s st p q, getD-replicate {A = List Line} 8 p [] [] q) (follows-none _ _ _) }

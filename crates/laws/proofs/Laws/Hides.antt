@@ -1,16 +1,17 @@
 -- What a scan shows is what the ledger shows of the lines. 01 "Who sees a row". Definitions:
 -- rules/specs/Hides.antt.
--- In order: rows shown together; the words shown; the flags' count; the words at the flags and the count of ones; the
--- words at a bitmap's ones.
+-- In order: rows shown together; the words shown, which are some of the words; the flags' count; the words at the flags
+-- and the count of ones; the words at a bitmap's ones.
 -- Elsewhere: hidden beside concealed (LinesOf.antt); the flags as bytes (Bitmap.antt).
 -- Assumes nothing.
 use mathlib.Core.Path.{_≡_, refl, sym, _∙_, ap}
-use mathlib.Core.Bool.{Bool, not, _&&_, cond}
+use mathlib.Core.Bool.{Bool, false, not, _&&_, cond}
 use mathlib.Core.List.{List, [], _∷_, _++_, map}
-use Prim.Native.Nat.{ℕ, _+_}
+use Prim.Native.Nat.{ℕ, _≤_}
 use native.Mathlib.Omega.{arith}
 use lib.ListN.{length, replicate, length-append, length-replicate}
 use Rattle.lists.specs.Lists.{ones}
+use Rattle.lists.proofs.Laws.All.{All, All-append, All-left, All-right}
 use Rattle.lists.proofs.Laws.Bools.{split}
 use Rattle.lists.proofs.Laws.Select.{select, select-append, select-replicate, ones-select}
 use Rattle.rules.specs.Ledger.{Line, row, concealed, showsIn, shows}
@@ -48,6 +49,45 @@ shown-linesIn s a all (t ∷ ss) =
 pub shown-lines : (s a : ℕ → Bool) (ss : List Span) → shown s a ss ≡ shows s a (linesOf ss)
 unfolding shown shows
 shown-lines s a ss = shown-linesIn s a ss ss
+
+-- ---- what is shown is some of the words
+
+shownIn-all : (P : ℕ → Type 0) (s a : ℕ → Bool) (all ss : List Span) → All P (wordsOf ss) → All P (shownIn s a all ss)
+unfolding shownIn wordsOf
+shownIn-all P s a all [] h = tt
+shownIn-all P s a all (t ∷ ss) h =
+    let rest = shownIn-all P s a all ss (All-right P (t .words) (wordsOf ss) h) in
+    split (s (t .epoch) && not (hidden a all (t ∷ ss) (t .epoch)))
+      (λ y. rw y (All-append P (t .words) (shownIn s a all ss) (All-left P (t .words) (wordsOf ss) h) rest))
+      (λ f. rw f rest)
+
+shownIn-most : (s a : ℕ → Bool) (all ss : List Span) → length (shownIn s a all ss) ≤ length (wordsOf ss)
+unfolding shownIn wordsOf
+shownIn-most s a all [] = omega arith
+shownIn-most s a all (t ∷ ss) =
+    let ih = shownIn-most s a all ss in let k = length-append (t .words) (wordsOf ss) in
+    split (s (t .epoch) && not (hidden a all (t ∷ ss) (t .epoch)))
+      (λ y. rw y (omega (arith, length-append (t .words) (shownIn s a all ss))))
+      (λ f. rw f (omega arith))
+
+shownIn-none : (s a : ℕ → Bool) (all ss : List Span) → All (λ t. s (t .epoch) ≡ false) ss → shownIn s a all ss ≡ []
+unfolding shownIn
+shownIn-none s a all [] h = refl
+shownIn-none s a all (t ∷ ss) h = rw (h .0) (shownIn-none s a all ss (h .1))
+
+module _ (s a : ℕ → Bool) (ss : List Span) where
+  pub shown-all : (P : ℕ → Type 0) → All P (wordsOf ss) → All P (shown s a ss)
+  unfolding shown
+  shown-all P h = shownIn-all P s a ss ss h
+
+  pub shown-most : length (shown s a ss) ≤ length (wordsOf ss)
+  unfolding shown
+  shown-most = shownIn-most s a ss ss
+
+  -- of epochs that are not seen nothing
+  pub shown-none : All (λ t. s (t .epoch) ≡ false) ss → shown s a ss ≡ []
+  unfolding shown
+  shown-none h = shownIn-none s a ss ss h
 
 -- ---- of each row one flag
 

@@ -24,6 +24,8 @@ use Rattle.rules.specs.Span.{Span, wordsOf}
 use Rattle.rules.specs.Append.{appended}
 use Rattle.rules.specs.Rewrite.{rolledBack, purgedIn, purged, skips}
 use Rattle.rules.specs.Bitmap.{bytesFor}
+use Rattle.rules.specs.Checkpoint.{encoded, corruptIn, savedIn}
+use Rattle.rules.specs.Recovery.{checkpointAt, saveAnswer, recoverAnswer}
 use Rattle.rules.specs.Store.{Store, managerOf, partitionAt, spansAt, laid, laidInPlace}
 use Rattle.rules.specs.Ledger.{row, delete}
 use Rattle.rules.specs.Answers.{replyOf, accepted}
@@ -31,11 +33,10 @@ use Rattle.rules.specs.WellFormed.{sound, lengthsOk}
 use Rattle.rules.specs.Calls.{refuse, within, isReader, createAnswer, closeAnswer, managerAnswer}
 use Rattle.rules.specs.Calls.{advanceLseAnswer, appendAnswer, clearAnswer, purgeAnswer}
 use Rattle.rules.specs.Calls.{scanAnswer}
-use Rattle.rules.specs.Step.{Call, create, manage, append, clear, rollback, scan, advanceLse, purge}
-use Rattle.rules.specs.Step.{onScan, step, run}
-use Rattle.rules.specs.declared.Reader.{Reader}
-use Rattle.rules.specs.declared.Refusal.the-variants.{UnknownPartition, NotOpen, ShortBitmap}
-use Rattle.rules.specs.declared.Refusal.the-variants.{OutOfRange}
+use Rattle.rules.specs.Step.{Call, create, manage, append, clear, rollback, scan, advanceLse, purge, save, recover}
+use Rattle.rules.specs.Step.{step, run}
+use Rattle.rules.specs.declared.Refusal.the-variants.{UnknownPartition, NotOpen, ShortOutput}
+use Rattle.rules.specs.declared.Refusal.the-variants.{OutOfRange, Corrupt}
 use Rattle.rules.specs.declared.Refusal.the-variants.{RowsFull, EntriesFull}
 use Rattle.rules.specs.declared.Answer.{Answer}
 use Rattle.laws.proofs.Laws.Begin.{created-ok as createdManager-ok}
@@ -48,7 +49,8 @@ use Rattle.laws.proofs.Laws.Epochs.{rolledBack-epochOk}
 use Rattle.laws.proofs.Laws.Rewrite.{words-joined, length-joined, words-keepIf, length-purgedIn}
 use Rattle.laws.proofs.Laws.Live.{words-purged, purge-live-refused}
 use Rattle.laws.proofs.Laws.WellFormed.{StoreOk, lengths-ok}
-use Rattle.laws.proofs.Laws.Totals.{SoundOk, sound-facts, sound-ok, sound-refreshed, totals-created, sound-added}
+use Rattle.laws.proofs.Laws.Totals.{SoundOk, sound-facts, sound-ok, sound-refreshed, totals-created}
+use Rattle.laws.proofs.Laws.Totals.{sound-added}
 use Rattle.laws.proofs.Laws.Totals.{sound-purged}
 use Rattle.laws.proofs.Laws.Store.{created-ok, append-changed, clear-changed}
 use Rattle.laws.proofs.Laws.Store.{rollback-ok}
@@ -58,6 +60,8 @@ use Rattle.laws.proofs.Laws.Calls.{clear-passed, purge-passed}
 use Rattle.laws.proofs.Laws.Answers.{refused-values}
 use Rattle.laws.proofs.Laws.NotUnsound.{Not5, ends, past, either-way}
 use Rattle.laws.proofs.Laws.ManagerCalls.{manager-not-5, manager-sound}
+use Rattle.laws.proofs.Laws.Checkpoint.{saved-ok}
+use Rattle.laws.proofs.Laws.Recovery.{recovered-sound, recover-passed}
 
 -- ---- a call
 
@@ -70,8 +74,14 @@ pub sound-created : (s : ℕ) (st : Store) → accepted (step (create s) st .ans
     → SoundOk (step (create s) st .store)
 unfolding step
 sound-created s st t = let k = create-passed s (lengthsOk st) t in
-    rw t (record { shape = created-ok s st (k .sound) (createdManager-ok s (k .low) (k .high));
+    rw t (record { shape = created-ok s st (k .sound) (createdManager-ok s (k .low) (omega (arith, k .high)));
       totals = totals-created s st })
+
+pub sound-recovered : (file : List ℕ) (st : Store) → accepted (step (recover file) st .answer) ≡ true
+    → SoundOk (step (recover file) st .store)
+unfolding step
+sound-recovered file st t =
+    rw t (recovered-sound (savedIn file) (saved-ok file) st (recover-passed file (lengthsOk st) t .sound))
 
 module _ (st : Store) (ok : SoundOk st) where
   pub rows-room : (p : ℕ) → p < partitionsMax → partitionAt p st .rows ≤ rowsMax
@@ -113,6 +123,9 @@ sound-step (rollback i) st ok = let m = managerOf st in let n = rolledBackManage
         (λ j q ne. rolledBack-epochOk i m j ne q)))
 sound-step (scan r p lent) st ok = ok
 sound-step (purge p) st ok = sound-purge st ok p
+sound-step (save e lent) st ok = ok
+sound-step (recover file) st ok = split (accepted (recoverAnswer file (lengthsOk st)))
+    (λ t. sound-recovered file st t) (λ f. rw f ok)
 
 -- ---- as the test; an array of the source has its length by its type
 
@@ -141,7 +154,7 @@ module _ (st : Store) (ok : SoundOk st) where
       (past NotOpen (not (hasOpen i (managerOf st))) a refl k)
 
 answers-not-5 : (c : Call) (st : Store) → SoundOk st → Not5 (step c st .answer)
-unfolding step createAnswer closeAnswer appendAnswer clearAnswer purgeAnswer scanAnswer
+unfolding step createAnswer closeAnswer appendAnswer clearAnswer purgeAnswer scanAnswer saveAnswer recoverAnswer
 answers-not-5 (create s) st ok = rw (lengths-ok st (ok .shape))
   (past OutOfRange (not (within 1 lastEpoch s)) _ refl (ends _ refl))
 answers-not-5 (manage c) st ok = rw (sound-ok st ok) (manager-not-5 c (managerOf st))
@@ -154,9 +167,14 @@ answers-not-5 (rollback i) st ok = rw (sound-ok st ok)
   (past NotOpen (not (hasOpen i (managerOf st))) _ refl (ends _ refl))
 answers-not-5 (scan r p lent) st ok = rw (sound-ok st ok)
   (past UnknownPartition (leb partitionsMax p) _ refl (past NotOpen (not (isReader r (managerOf st))) _ refl
-    (past ShortBitmap (ltb (length lent) (bytesFor (partitionAt p st .rows))) _ refl (ends _ refl))))
+    (past ShortOutput (ltb (length lent) (bytesFor (partitionAt p st .rows))) _ refl (ends _ refl))))
 answers-not-5 (purge p) st ok = rw (sound-ok st ok) (past UnknownPartition (leb partitionsMax p) _ refl
   (either-way (skips (managerOf st .clock .lse) (spansAt p st)) _ _ (ends _ refl) (ends _ refl)))
+answers-not-5 (save e lent) st ok = rw (sound-ok st ok)
+  (past OutOfRange (not (within (managerOf st .clock .lse) (managerOf st .clock .lce) e)) _ refl
+    (past ShortOutput (ltb (length lent) (length (encoded (checkpointAt e st)))) _ refl (ends _ refl)))
+answers-not-5 (recover file) st ok = rw (lengths-ok st (ok .shape))
+  (past Corrupt (corruptIn file) _ refl (ends _ refl))
 
 pub sound-answers : (c : Call) (st : Store) → SoundOk st → replyOf (step c st .answer) .number ≡ 5 → ⊥
 sound-answers c st ok = eqb-false (replyOf (step c st .answer) .number) 5 (answers-not-5 c st ok .number)
@@ -170,35 +188,45 @@ target-zero-accepted st ok = let m = managerOf st in let t = targetOf 0 m in let
 
 -- ---- a refused call
 
--- the bitmap that a call was lent
+-- the bytes that a call is lent to write: the bitmap of a scan, the output of a save
 abbrev pub lentTo : Call → List ℕ
-lentTo c = onScan c (λ (r : Reader) (p : ℕ) (lent : List ℕ). lent) []
+lentTo (create s) = []
+lentTo (manage c) = []
+lentTo (append i p batch) = []
+lentTo (clear i p) = []
+lentTo (rollback i) = []
+lentTo (scan r p lent) = lent
+lentTo (purge p) = []
+lentTo (save e lent) = lent
+lentTo (recover file) = []
 
 -- 01: a refusal has no other answers, and nothing changes
 pub record RefusedSame (c : Call) (st : Store) : Type 0 where
   pub store : step c st .store ≡ st
-  pub bitmap : step c st .bitmap ≡ lentTo c
+  pub bytes : step c st .bytes ≡ lentTo c
   pub live : step c st .live ≡ []
   pub values : replyOf (step c st .answer) .values ≡ []
 
 record Same (c : Call) (st : Store) : Type 0 where
   store : step c st .store ≡ st
-  bitmap : step c st .bitmap ≡ lentTo c
+  bytes : step c st .bytes ≡ lentTo c
   live : step c st .live ≡ []
 
 same-of : (c : Call) (st : Store) → accepted (step c st .answer) ≡ false → Same c st
 unfolding step
-same-of (create s) st f = record { store = rw f; bitmap = refl; live = refl }
-same-of (manage c) st f = record { store = rw f; bitmap = refl; live = refl }
-same-of (append i p batch) st f = record { store = rw f; bitmap = refl; live = refl }
-same-of (clear i p) st f = record { store = rw f; bitmap = refl; live = refl }
-same-of (rollback i) st f = record { store = rw f; bitmap = refl; live = refl }
-same-of (scan r p lent) st f = record { store = refl; bitmap = rw f; live = refl }
-same-of (purge p) st f = record { store = rw f; bitmap = refl; live = purge-live-refused p st f }
+same-of (create s) st f = record { store = rw f; bytes = refl; live = refl }
+same-of (manage c) st f = record { store = rw f; bytes = refl; live = refl }
+same-of (append i p batch) st f = record { store = rw f; bytes = refl; live = refl }
+same-of (clear i p) st f = record { store = rw f; bytes = refl; live = refl }
+same-of (rollback i) st f = record { store = rw f; bytes = refl; live = refl }
+same-of (scan r p lent) st f = record { store = refl; bytes = rw f; live = refl }
+same-of (purge p) st f = record { store = rw f; bytes = refl; live = purge-live-refused p st f }
+same-of (save e lent) st f = record { store = refl; bytes = rw f; live = refl }
+same-of (recover file) st f = record { store = rw f; bytes = refl; live = refl }
 
 pub refused-same : (c : Call) (st : Store) → accepted (step c st .answer) ≡ false → RefusedSame c st
 refused-same c st f = let k = same-of c st f in
-    record { store = k .store; bitmap = k .bitmap; live = k .live; values = refused-values (step c st .answer) f }
+    record { store = k .store; bytes = k .bytes; live = k .live; values = refused-values (step c st .answer) f }
 
 -- ---- a rewrite fits: no more rows and entries than the spans ss had, and those are at most what an area
 -- holds

@@ -23,7 +23,7 @@ use Rattle.rules.specs.Answers.{replyOf, accepted}
 use Rattle.rules.specs.WellFormed.{lengthsOk, sound}
 use Rattle.rules.specs.Calls.{closeAnswer, appendAnswer}
 use Rattle.rules.specs.Calls.{clearAnswer}
-use Rattle.rules.specs.Step.{Call, create, manage, append, clear, rollback, scan, purge, step}
+use Rattle.rules.specs.Step.{Call, create, manage, append, clear, rollback, scan, purge, save, recover, step}
 use Rattle.rules.specs.Ledger.{Line, row, delete, Ledger, heard, marksOf, linesAt, showsBy, withAdded}
 use Rattle.rules.specs.Promises.{isLoad, spares, ownStep, marksIn}
 use Rattle.rules.specs.Claim.{eventOf, isOpenIn, shownBy}
@@ -35,6 +35,7 @@ use Rattle.laws.proofs.Laws.Calls.{create-refused, append-passed, clear
 use Rattle.laws.proofs.Laws.Tracks.{shownBy-marks}
 use Rattle.laws.proofs.Laws.Snapshots.{Keeps, keeps-lines, keeps-close, other-mark, own-mark, own-later}
 use Rattle.laws.proofs.Laws.ManagerCalls.{manager-keeps}
+use Rattle.laws.proofs.Laws.Recovery.{recover-refused}
 use Rattle.laws.proofs.Laws.Sound.{rows-room}
 use Rattle.laws.proofs.Laws.Follows.{Follows}
 
@@ -47,6 +48,8 @@ ownStep-page t p (clear i q) a ws = refl
 ownStep-page t p (rollback i) a ws = refl
 ownStep-page t p (scan v q lent) a ws = refl
 ownStep-page t p (purge q) a ws = refl
+ownStep-page t p (save e lent) a ws = refl
+ownStep-page t p (recover file) a ws = refl
 
 -- ---- Stays
 
@@ -167,3 +170,5 @@ module _ {st : Store} {g : Ledger} (F : Follows st g) (r : Reader) (o : isOpenIn
     (λ t. stays-keeps r g _ (keeps-close g (g .committed) i r o (not-true (isLoad i r) h)) refl)
   stays-step (scan v p lent) h = stays-still r g o
   stays-step (purge p) h = stays-still r g o
+  stays-step (save e lent) h = stays-still r g o
+  stays-step (recover file) h = rw (recover-refused file (lengthsOk st) h) (stays-still r g o)

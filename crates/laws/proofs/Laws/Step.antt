@@ -5,6 +5,7 @@ use Prim.Native.Nat.{ℕ}
 use Rattle.rules.specs.Step.{onScanCommand}
 use Rattle.rules.specs.declared.Command.{Command}
 use Rattle.rules.specs.declared.Command.the-variants.{Create, Manage, Append, Clear, RollBack, Scan, Purge}
+use Rattle.rules.specs.declared.Command.the-variants.{Save, Recover}
 use Rattle.rules.specs.declared.Reader.{Reader}
 
 -- a command that is no scan
@@ -20,3 +21,5 @@ scan-or P s o (Clear i p) = o (Clear i p) (λ A f d. refl)
 scan-or P s o (RollBack i) = o (RollBack i) (λ A f d. refl)
 scan-or P s o (Scan r p) = s r p
 scan-or P s o (Purge p) = o (Purge p) (λ A f d. refl)
+scan-or P s o (Save e) = o (Save e) (λ A f d. refl)
+scan-or P s o Recover = o Recover (λ A f d. refl)

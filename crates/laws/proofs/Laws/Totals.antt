@@ -59,21 +59,21 @@ unfolding totalsOk
 total-kept st ok p l = eqb-true (getD (st .state .totals) p 0) (totalAt p st)
     (tests-each (λ q. eqb (getD (st .state .totals) q 0) (totalAt q st)) (ok .totals) p l)
 
--- a number for each partition
-pub numbered : (f : ℕ → ℕ) (p : ℕ) → p < partitionsMax → getD (map f partitionNumbers) p 0 ≡ f p
-numbered f zero h = refl
-numbered f (suc zero) h = refl
-numbered f (suc (suc zero)) h = refl
-numbered f (suc (suc (suc zero))) h = refl
-numbered f (suc (suc (suc (suc zero)))) h = refl
-numbered f (suc (suc (suc (suc (suc zero))))) h = refl
-numbered f (suc (suc (suc (suc (suc (suc zero)))))) h = refl
-numbered f (suc (suc (suc (suc (suc (suc (suc zero))))))) h = refl
-numbered f (suc (suc (suc (suc (suc (suc (suc (suc n)))))))) h = absurd (omega arith)
+-- one for each partition
+pub numbered : {A : Type 0} (f : ℕ → A) (d : A) (p : ℕ) → p < partitionsMax → getD (map f partitionNumbers) p d ≡ f p
+numbered f d zero h = refl
+numbered f d (suc zero) h = refl
+numbered f d (suc (suc zero)) h = refl
+numbered f d (suc (suc (suc zero))) h = refl
+numbered f d (suc (suc (suc (suc zero)))) h = refl
+numbered f d (suc (suc (suc (suc (suc zero))))) h = refl
+numbered f d (suc (suc (suc (suc (suc (suc zero)))))) h = refl
+numbered f d (suc (suc (suc (suc (suc (suc (suc zero))))))) h = refl
+numbered f d (suc (suc (suc (suc (suc (suc (suc (suc n)))))))) h = absurd (omega arith)
 
 pub totals-each : (st : Store) (p : ℕ) → p < partitionsMax → getD (totalsOf st) p 0 ≡ totalAt p st
 unfolding totalsOf
-totals-each st p h = numbered (λ q. totalAt q st) p h
+totals-each st p h = numbered (λ q. totalAt q st) 0 p h
 
 totals-length : (st : Store) → length (totalsOf st) ≡ partitionsMax
 unfolding totalsOf
@@ -82,7 +82,7 @@ totals-length st = refl
 pub totals-by : (st : Store) (f : ℕ → ℕ) → ((p : ℕ) → p < partitionsMax → totalAt p st ≡ f p)
     → totalsOf st ≡ map f partitionNumbers
 unfolding totalsOf
-totals-by st f h = ext-getD 0 _ _ refl (λ p l. numbered (λ q. totalAt q st) p l ∙ (h p l ∙ sym (numbered f p l)))
+totals-by st f h = ext-getD 0 _ _ refl (λ p l. numbered (λ q. totalAt q st) 0 p l ∙ (h p l ∙ sym (numbered f 0 p l)))
 
 -- under a manager with the same LCE they are those that are kept
 at-lce : (st : Store) (m : Manager) → m .clock .lce ≡ managerOf st .clock .lce → (p : ℕ)

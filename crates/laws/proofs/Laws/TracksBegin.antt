@@ -34,7 +34,7 @@ use Rattle.laws.proofs.Laws.Tracks.{readers-alive}
 pub tracks-create : (s : ℕ) → 1 ≤ s → s ≤ lastEpoch → Tracks (createdManager s) (newLedger s)
 unfolding createdManager
 tracks-create s low high = record {
-  ok = created-ok s low high;
+  ok = created-ok s low (omega arith);
   writers = record {
     same = λ i. refl; older = λ i j o u h. no-proof o; marks = λ i o j. no-proof o;
     done-below = λ c d. no-proof d; done-shut = λ c d. no-proof d; done-known = λ c d. no-proof d;

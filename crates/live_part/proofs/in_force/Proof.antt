@@ -15,7 +15,7 @@ use Rattle.live_part.proofs.in_force.Tie as tie
 
 -- the variants of Answer but Rewritten and Skipped, by their place in its declaration: they have no part
 abbrev others : List ℕ
-others = 0 ∷ 1 ∷ 2 ∷ 3 ∷ 4 ∷ 5 ∷ 6 ∷ 7 ∷ 8 ∷ 11 ∷ []
+others = 0 ∷ 1 ∷ 2 ∷ 3 ∷ 4 ∷ 5 ∷ 6 ∷ 7 ∷ 8 ∷ 11 ∷ 12 ∷ 13 ∷ []
 
 no-part : (old new : List ℕ) (a : Answer) → OneOf others (tagOf the-type a) → livePart old new a ≡ []
 no-part old new = answer-cases (λ a. OneOf others (tagOf the-type a) → livePart old new a ≡ []) (λ r h. refl)

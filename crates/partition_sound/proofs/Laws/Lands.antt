@@ -102,7 +102,7 @@ module _ (st : Store) (ok : SoundOk st) (eight : length (st .state .partitions .
     pub lands-all : landedBelow es rows a partitionsMax ≡ map next partitionNumbers
     lands-all = ext-getD 0 _ _ (below-length partitionsMax) (λ p q.
         let k : p < partitionsMax = omega (arith, below-length partitionsMax, q) in
-        below partitionsMax (omega arith) p k ∙ (rw (lt-ltb p partitionsMax k) (sym (numbered next p k))))
+        below partitionsMax (omega arith) p k ∙ (rw (lt-ltb p partitionsMax k) (sym (numbered next 0 p k))))
 
 -- ---- commit and roll back
 

@@ -10,25 +10,20 @@ use Prim.Native.Nat.{ℕ, zero, suc, _*_, _-_, _≤_, _<_}
 use native.Mathlib.Omega.{arith}
 use lib.ListN.{length, take, drop, getD}
 use lib.Dec.{ltb, leb, eqb}
-use borrow.Author.Tests.{leb-true, ltb-true, ltb-false, eqb-true, le-leb, lt-ltb, ne-eqb}
+use borrow.Author.Tests.{leb-true, ltb-true, ltb-false, eqb-true, le-leb, lt-ltb}
 use Rattle.lists.specs.Lists.{allOf, anyOf, part}
 use Rattle.lists.proofs.Laws.All.{All, All-imp, All-every, All-allOf, allOf-All, All-getD, getD-All, All-anyOf}
-use Rattle.lists.proofs.Laws.Bools.{split, split-eq, both-ways, and-left, and-right, and-both, and-true, and-false}
+use Rattle.lists.proofs.Laws.Bools.{split, split-eq, both-ways, and-left, and-right, and-both, and-false}
 use Rattle.lists.proofs.Laws.Tests.{and-comm}
 use Rattle.rules.specs.Limits.{rowsMax, entriesMax, areasMax, partitionsMax}
 use Rattle.rules.specs.Span.{Span, spans}
-use Rattle.rules.specs.Sees.{upTo}
 use Rattle.rules.specs.Weight.{weight, weightBy, total}
-use Rattle.rules.specs.Ledger.{Line}
 use Rattle.rules.specs.Store.{noPartition, partitionNumbers}
 use Rattle.rules.specs.WellFormed.{areasOk, endsOk, apart}
 use Rattle.rules.specs.declared.Clock.{Clock}
 use Rattle.rules.specs.declared.Entry.{Entry}
 use Rattle.rules.specs.declared.Partition.{Partition}
-use Rattle.laws.proofs.Laws.Lines.{markOf, Agree, shows-agree}
-use Rattle.laws.proofs.Laws.LinesOf.{linesOf, All-lines}
 use Rattle.laws.proofs.Laws.Store.{own-area}
-use Rattle.laws.proofs.Laws.Weight.{weight-lines, total-lines}
 use Rattle.laws.proofs.Laws.WellFormed.{areas-facts}
 use Rattle.area.specs.Load.{partitionIn}
 use Rattle.lent.specs.Shapes.{turned}
@@ -39,6 +34,7 @@ use Rattle.totals.specs.declared.Reach.{Reach}
 use Rattle.totals.specs.declared.Cuts.{Cuts}
 use Rattle.totals.specs.declared.Tally.{Tally}
 use Rattle.totals.proofs.Laws.Clearing.{reach-none, top-still}
+use Rattle.totals.proofs.Laws.Page.{page-shows}
 use Rattle.totals.proofs.Laws.Lot.{Placed, Lies, lot-turned, lot-weighs}
 use Rattle.partition_sound.specs.Sound.{entryOkBy, epochOkBy, partitionOkBy, beforeFirst, chained}
 use Rattle.partition_sound.specs.Asked.{lengthsAre, spansOf, totalsAre, restAsked}
@@ -78,20 +74,10 @@ unfolding spans
 epochs-spans n [] ws h = tt
 epochs-spans n (e ∷ es) ws h = (h .0, epochs-spans (e .end) es (drop (e .end - n) ws) (h .1))
 
--- a page at LCE sees the epochs from 1 on up to it
-page-reach : (lce j : ℕ) → 1 ≤ j → inReach (record { over = 0; high = lce; gone = 0 }) j ≡ upTo lce j
-unfolding inReach
-page-reach lce j h = rw (lt-ltb 0 j h, ne-eqb j 0 (λ e. omega arith)) (and-true (leb j lce))
-
 pub page-weighs : (lce : ℕ) (ss : List Span) → All (λ s. 1 ≤ s .epoch) ss
     → weightBy (inReach (record { over = 0; high = lce; gone = 0 })) ss ≡ total lce ss
-page-weighs lce ss h = let r : ℕ → Bool = inReach (record { over = 0; high = lce; gone = 0 }) in
-    weight-lines r ss ∙ (ap weight (shows-agree r r (upTo lce) (upTo lce) (linesOf ss) (All-imp _ _ same (linesOf ss)
-      (All-lines (λ j. 1 ≤ j) ss h))) ∙ sym (total-lines lce ss))
-  where
-    same : (x : Line) → 1 ≤ markOf x → Agree (inReach (record { over = 0; high = lce; gone = 0 })) (inReach (record {
-        over = 0; high = lce; gone = 0 })) (upTo lce) (upTo lce) x
-    same x q = (page-reach lce (markOf x) q, page-reach lce (markOf x) q)
+unfolding weightBy total
+page-weighs lce ss h = ap weight (page-shows lce ss h)
 
 -- ---- the pass
 

@@ -25,7 +25,7 @@ use Rattle.session_text.specs.declared.Parsed.{Parsed}
 use Rattle.session_text.specs.declared.Parsed.the-variants.{Call as Is, Bad}
 use Rattle.store.specs.Kept.{storeOf}
 use Rattle.rules.specs.declared.Kept.{Kept}
-use Rattle.dispatch.specs.Dispatch.{bitmapLeft, Did}
+use Rattle.dispatch.specs.Dispatch.{bytesLeft, Did}
 use Rattle.session_line.specs.Session.{bits, callIn, rowsShown, afterLine, answerTo}
 use Rattle.session_line.specs.Rooms.{numbersMax, answerMax, heldAfter}
 use Rattle.session_line.specs.Shown.{shownIn, fitting}
@@ -35,11 +35,11 @@ use Rattle.session_line.proofs.Laws.Rooms.{fit-line, room-parsed, rows-batch, s
 
 -- by what the call left
 shown-after : (c : Command) (batch : List ℕ) (st : Store) → let out = step (callOf c batch bits) st in
-    shownIn c (out .answer) (out .store .state .partitions) (bitmapLeft c out bits) (out .store .rows) ≡ rowsShown c st
+    shownIn c (out .answer) (out .store .state .partitions) (bytesLeft c out bits) (out .store .rows) ≡ rowsShown c st
 unfolding step
 shown-after c batch st = scan-or
     (λ c. let out = step (callOf c batch bits) st in
-      shownIn c (out .answer) (out .store .state .partitions) (bitmapLeft c out bits) (out .store .rows)
+      shownIn c (out .answer) (out .store .state .partitions) (bytesLeft c out bits) (out .store .rows)
         ≡ rowsShown c st)
     (λ r p. refl) (λ c o. o _ _ _ ∙ sym (o _ _ _)) c
 

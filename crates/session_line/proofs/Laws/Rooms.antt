@@ -136,7 +136,7 @@ words-few bytes n i rows = let l = part i rowsMax rows in
 pub shown-few : (c : Command) (st : Store) → length (rowsShown c st) ≤ rowsMax
 shown-few c st = scan-or (λ c. length (rowsShown c st) ≤ rowsMax)
     (λ r p. let out = step (scan r p bits) st in
-      words-few (out .bitmap) (firstValue (replyOf (out .answer))) (rowsMax * partitionAt p st .area) (st .rows))
+      words-few (out .bytes) (firstValue (replyOf (out .answer))) (rowsMax * partitionAt p st .area) (st .rows))
     (λ c o. rw (o _ _ _) (omega arith)) c
 
 -- ---- the bytes of an answer

@@ -121,15 +121,18 @@ module _ (ws buffer now : List ℕ) (n : ℕ) (counts : n ≡ length (fitting ws
 -- ---- the line that answers a call, by whether it is a scan
 
 -- the other commands, by their tags in the code
+abbrev pub others : List ℕ
+others = 0 ∷ 1 ∷ 2 ∷ 3 ∷ 4 ∷ 6 ∷ 7 ∷ 8 ∷ []
+
 no-scan : (c : Command) (a : Answer) (ps : Partitions) (bitmap rows ws : List ℕ)
-    → OneOf (0 ∷ 1 ∷ 2 ∷ 3 ∷ 4 ∷ 6 ∷ []) (tagOf the-type c)
+    → OneOf others (tagOf the-type c)
     → (lineOf (letterOf c) (replyOf a .number) (replyOf a .values) ≡ printed c a ws) × (shownIn c a ps bitmap rows ≡ [])
 unfolding printed
 no-scan c a ps bitmap rows ws = scan-or
-    (λ c. OneOf (0 ∷ 1 ∷ 2 ∷ 3 ∷ 4 ∷ 6 ∷ []) (tagOf the-type c)
+    (λ c. OneOf others (tagOf the-type c)
       → (lineOf (letterOf c) (replyOf a .number) (replyOf a .values) ≡ printed c a ws)
         × (shownIn c a ps bitmap rows ≡ []))
-    (λ r p h. absurd (miss (0 ∷ 1 ∷ 2 ∷ 3 ∷ 4 ∷ 6 ∷ []) 5 tt h)) (λ c n h. (rw (n _ _ _), n _ _ _)) c
+    (λ r p h. absurd (miss others 5 tt h)) (λ c n h. (rw (n _ _ _), n _ _ _)) c
 
 module _ (c : Command) (a : Answer) (ps : Partitions) (bitmap rows buffer out : List ℕ) (letter : ℕ) (w : ReplyWords)
     (is-letter : letter ≡ letterOf c) (is-reply : w ≡ wordsOf (replyOf a)) (size : ℕ) (o : List ℕ) where
@@ -159,7 +162,7 @@ module _ (c : Command) (a : Answer) (ps : Partitions) (bitmap rows buffer out : 
         let g : ws ≡ shown = rw (is, is-at, is-reply, getD-pad valuesMax 0 (replyOf a .values) 0) in
         line-printed v (rw (is-front, f, g, is-letter, is-reply, is)) (rw g at shows)
 
-    pub other-printed : OneOf (0 ∷ 1 ∷ 2 ∷ 3 ∷ 4 ∷ 6 ∷ []) (tagOf the-type c) → vs ≡ take (w .count) (w .values)
+    pub other-printed : OneOf others (tagOf the-type c) → vs ≡ take (w .count) (w .values)
         → Printed buffer
     other-printed h is-front = let e = no-scan c a ps bitmap rows (fitting shown buffer) h in
         line-printed buffer (rw (is-front, is-reply, take-pad valuesMax 0 (replyOf a .values), is-letter) (e .0))

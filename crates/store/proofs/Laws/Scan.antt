@@ -17,10 +17,10 @@ use Rattle.rules.specs.Bitmap.{bytesFor, packed, bitmapAfter}
 use Rattle.rules.specs.Store.{Store, entriesAt, rowsAt, spansAt}
 use Rattle.rules.specs.WellFormed.{sound}
 use Rattle.rules.specs.Calls.{refuse, isReader, seesOf, appliesOf, flagsAt, scanAnswer}
-use Rattle.rules.specs.Step.{Outcome, scanOutcome, step, scan}
+use Rattle.rules.specs.Step.{Outcome, writeOutcome, step, scan}
 use Rattle.rules.specs.declared.Answer.the-variants.{Scanned, Refused}
 use Rattle.rules.specs.declared.Refusal.{Refusal}
-use Rattle.rules.specs.declared.Refusal.the-variants.{UnknownPartition, NotOpen, ShortBitmap, Unsound}
+use Rattle.rules.specs.declared.Refusal.the-variants.{UnknownPartition, NotOpen, ShortOutput, Unsound}
 use Rattle.rules.specs.declared.Reader.{Reader}
 use Rattle.rules.specs.declared.Reader.the-variants.{Rw, Ro}
 use Rattle.rules.specs.declared.Entry.{Entry}
@@ -56,7 +56,8 @@ unfolding copied
 copied-none bits lent = rw (le-leb 0 (length lent) (omega arith))
 
 refused-left : (r : Refusal) (s : State) (es : List Entry) (rs lent : List ℕ) (flags : List Bool)
-    → Carried lent (storeOf s rs es) (scanOutcome (Refused r) flags lent (storeOf s rs es)) (refusedLook r)
+    → Carried lent (storeOf s rs es) (writeOutcome (Refused r) (bitmapAfter flags lent) lent (storeOf s rs es))
+      (refusedLook r)
 refused-left r s es rs lent flags = rw (refused r) (refl, copied-none noBits lent, refl)
 
 -- the flags' bytes in 64 of 0, copied over those lent
@@ -118,15 +119,15 @@ module _ (s : State) (es : List Entry) (rs : List ℕ) (ok : StoreOk (storeOf s 
         ∙ ap (λ f. bitmapAfter f noBits) same-flags
 
     scan-room : (lent : List ℕ)
-        → Carried lent (storeOf s rs es) (scanOutcome
-          (refuse ShortBitmap (ltb (length lent) (bytesFor (partitionOf p s .rows)))
+        → Carried lent (storeOf s rs es) (writeOutcome
+          (refuse ShortOutput (ltb (length lent) (bytesFor (partitionOf p s .rows)))
           (Scanned (partitionOf p s .rows) (ones (flagsAt r p (storeOf s rs es)))))
-          (flagsAt r p (storeOf s rs es)) lent (storeOf s rs es))
+          (bitmapAfter (flagsAt r p (storeOf s rs es)) lent) lent (storeOf s rs es))
           (lookAt (areaAt es (partitionOf p s)) (partitionOf p s) v deps (length lent))
     unfolding lookAt
     scan-room lent = let q = partitionOf p s in let n = bytesFor (q .rows) in let st = storeOf s rs es in
         split (ltb (length lent) n)
-        (λ t. rw t (refused-left ShortBitmap s es rs lent (flagsAt r p st)))
+        (λ t. rw t (refused-left ShortOutput s es rs lent (flagsAt r p st)))
         (λ f. rw (f, ones-are, bits-are) (refl,
           copied-bits (flagsAt r p st) lent (q .rows) flags-rows (bytes-fit (q .rows) (entries-facts .rows-fit))
             (ltb-false (length lent) n f), refl))

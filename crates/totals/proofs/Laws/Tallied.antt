@@ -39,7 +39,7 @@ abbrev pub rowsFrom : List ℕ → ℕ → ℕ → ℕ → List ℕ
 rowsFrom rs base a b = part (base + a) (b - a) rs
 
 module _ (rs : List ℕ) (base a b d : ℕ) (ab : a ≤ b) (bd : b ≤ d) where
-  rows-split : rowsFrom rs base a d ≡ rowsFrom rs base a b ++ rowsFrom rs base b d
+  pub rows-split : rowsFrom rs base a d ≡ rowsFrom rs base a b ++ rowsFrom rs base b d
   rows-split = let x : d - a ≡ (b - a) + (d - b) = omega arith in
       let y : (base + a) + (b - a) ≡ base + b = omega arith in
       rw (x, take-add (b - a) (d - b) (drop (base + a) rs), drop-drop (b - a) (base + a) rs, y)
@@ -67,11 +67,24 @@ weighed-short rs base a b h = rw (lt-leb (base + b) (length rs) h, and-false (le
 
 -- ---- the pass
 
--- of the entries that begin at row k, what the rows weigh that a cut shows
+-- of the entries that begin at row k, the rows that a cut shows
+unfoldable pub shownRows : List ℕ → Cut → ℕ → List Entry → List ℕ
+shownRows rs c k [] = []
+shownRows rs c k (e ∷ es) =
+    cond (shows c k (e .epoch)) (rowsFrom rs (c .base) k (e .end)) [] ++ shownRows rs c (e .end) es
+
+-- what they weigh
 unfoldable pub shownSum : List ℕ → Cut → ℕ → List Entry → ℕ
 shownSum rs c k [] = 0
 shownSum rs c k (e ∷ es) =
     cond (shows c k (e .epoch)) (weight (rowsFrom rs (c .base) k (e .end))) 0 + shownSum rs c (e .end) es
+
+pub rows-weigh : (rs : List ℕ) (c : Cut) (k : ℕ) (es : List Entry) → weight (shownRows rs c k es) ≡ shownSum rs c k es
+unfolding shownRows shownSum weight
+rows-weigh rs c k [] = refl
+rows-weigh rs c k (e ∷ es) = let b = shows c k (e .epoch) in let ws = rowsFrom rs (c .base) k (e .end) in
+    weight-append (cond b ws []) (shownRows rs c (e .end) es)
+    ∙ rw (rows-weigh rs c (e .end) es) (split b (λ y. rw y) (λ f. rw f))
 
 -- a tally as the pass makes it: no row weighs more than 4,294,967,295
 pub record Small (t : Tally) : Type 0 where

@@ -1,17 +1,17 @@
 -- The pass over the entries of a sound partition weighs what a reader is shown (02 (iii)). Definitions:
 -- specs/Reach.antt, specs/Weighed.antt; rules/specs/Hides.antt, rules/specs/Weight.antt.
--- In order: the rows that the greatest clearing leaves; the sum of these; weighs, weighs-more.
+-- In order: the rows that the greatest clearing leaves; rows-shown; weighs, weighs-more.
 -- Elsewhere: the pass as a sum (Laws/Tallied.antt), the greatest clearing (Laws/Clearing.antt).
 -- Assumes nothing.
 use mathlib.Core.Path.{_≡_, refl, sym, _∙_, ap}
 use mathlib.Core.Bool.{true, false, not, _&&_, _||_, cond}
 use mathlib.Core.Logic.{inl, ⊎-elim}
-use mathlib.Core.List.{List, [], _∷_, foldl}
+use mathlib.Core.List.{List, [], _∷_, _++_, foldl}
 use Prim.Native.Nat.{ℕ, _+_, _-_, _≤_, _<_}
 use native.Mathlib.Omega.{arith}
 use native.Mathlib.Nat.{zero-add}
 use lib.Dec.{ltb, leb, eqb}
-use lib.ListN.{length, take, drop}
+use lib.ListN.{length}
 use borrow.Author.Tests.{ltb-true, ltb-false, leb-true, lt-ltb, le-ltb, le-leb, lt-leb, eq-eqb, ne-eqb}
 use Rattle.lists.specs.Lists.{part, anyOf}
 use Rattle.lists.proofs.Laws.Bools.{split, and-right, and-false, and-true}
@@ -31,8 +31,8 @@ use Rattle.totals.specs.declared.Top.{Top}
 use Rattle.totals.specs.declared.Cut.{Cut}
 use Rattle.totals.proofs.Laws.Clearing.{hides, reach-over, reach-last, topOf, Reached, none-greater}
 use Rattle.totals.proofs.Laws.Clearing.{top-greatest, top-reached, stands-first, edge-turn}
-use Rattle.totals.proofs.Laws.Tallied.{weight-append, rowsFrom, rows-take, rows-drop, shownSum, tally-sum}
-use Rattle.totals.proofs.Laws.Tallied.{more-sum}
+use Rattle.totals.proofs.Laws.Tallied.{rowsFrom, rows-take, rows-drop, shownRows, shownSum, rows-weigh}
+use Rattle.totals.proofs.Laws.Tallied.{tally-sum, more-sum}
 
 -- ---- the rows that the greatest clearing leaves
 
@@ -105,49 +105,44 @@ module _ (r : Reach) (rows n : ℕ) (e : Entry) (es : List Entry) (ws : List ℕ
     (λ p. let g = ap (λ (x : Top). x .edge) (p .1) in p .0 ∙ sym (le-ltb n (topOf r t (e ∷ es) .edge) (omega arith)))
     (stands-first r rows n e es ws t ok))
 
--- ---- the pass weighs what is shown
+-- ---- the rows that a cut shows are those that are shown
 
 module _ (r : Reach) (rs : List ℕ) (base n : ℕ) (few : n ≤ rowsMax) (all : List Span) (u : Top) (reached : Reached r u)
     (greatest : (j : ℕ) → anyOf (hides r (ltb j)) all ≡ ltb j (u .epoch)) where
   -- the rows of one entry, the first of the rest
-  first-weighs : (k : ℕ) (e : Entry) (rest : List Span) → k ≤ e .end → e .end ≤ n
+  first-shown : (k : ℕ) (e : Entry) (rest : List Span) → k ≤ e .end → e .end ≤ n
       → anyOf (hides r (ltb (u .epoch))) rest ≡ false
       → (k < e .end → e .epoch ≡ u .epoch → anyOf (hides r (eqb (e .epoch))) rest ≡ ltb k (u .edge))
-      → weight (cond (inReach r (e .epoch) && not (hidden (inReach r) all rest (e .epoch)))
-          (rowsFrom rs base k (e .end)) [])
-        ≡ cond (shows (cutOf r u base) k (e .epoch)) (weight (rowsFrom rs base k (e .end))) 0
-  unfolding weight
-  first-weighs k e rest h l below edge = split (ltb k (e .end))
+      → cond (inReach r (e .epoch) && not (hidden (inReach r) all rest (e .epoch))) (rowsFrom rs base k (e .end)) []
+        ≡ cond (shows (cutOf r u base) k (e .epoch)) (rowsFrom rs base k (e .end)) []
+  first-shown k e rest h l below edge = split (ltb k (e .end))
     (λ y. let g = ltb-true k (e .end) y in
-          rw (← shows-hidden r base u reached all greatest k rest (e .epoch) (omega arith) below (edge g))
-          (split (shows (cutOf r u base) k (e .epoch)) (λ a. rw a) (λ a. rw a)))
+          rw (← shows-hidden r base u reached all greatest k rest (e .epoch) (omega arith) below (edge g)))
     (λ f. let g = ltb-false k (e .end) f in let z : e .end - k ≡ 0 = omega arith in
           rw z (split (inReach r (e .epoch) && not (hidden (inReach r) all rest (e .epoch)))
             (λ a. rw a (split (shows (cutOf r u base) k (e .epoch)) (λ b. rw b) (λ b. rw b)))
             (λ a. rw a (split (shows (cutOf r u base) k (e .epoch)) (λ b. rw b) (λ b. rw b)))))
 
-  shown-sum : (k : ℕ) (es : List Entry) (t : Top) → endsOk n k es ≡ true → t .edge ≤ k → topOf r t es ≡ u
-      → weight (shownIn (inReach r) (inReach r) all (spans k es (rowsFrom rs base k n)))
-        ≡ shownSum rs (cutOf r u base) k es
-  unfolding spans shownIn shownSum weight
-  shown-sum k [] t h b q = refl
-  shown-sum k (e ∷ es) t h b q =
+  shown-rows : (k : ℕ) (es : List Entry) (t : Top) → endsOk n k es ≡ true → t .edge ≤ k → topOf r t es ≡ u
+      → shownIn (inReach r) (inReach r) all (spans k es (rowsFrom rs base k n)) ≡ shownRows rs (cutOf r u base) k es
+  unfolding spans shownIn shownRows
+  shown-rows k [] t h b q = refl
+  shown-rows k (e ∷ es) t h b q =
       let o = end-ok n k e es h in let low = o .low in let g = endsOk-le n (e .end) es (o .rest) in
       let ws = rowsFrom rs base k n in let rest = spans k (e ∷ es) ws in
-      let ih = shown-sum (e .end) es (topTurn r t e) (o .rest) (edge-turn r t e (omega arith)) q in
-      let first = first-weighs k e rest low g (rw q at (none-greater r t k (e ∷ es) ws))
+      let ih = shown-rows (e .end) es (topTurn r t e) (o .rest) (edge-turn r t e (omega arith)) q in
+      let first = first-shown k e rest low g (rw q at (none-greater r t k (e ∷ es) ws))
             (λ l. rw q at (edge-first r n k e es ws t h b l (e .epoch))) in
-      let b = inReach r (e .epoch) && not (hidden (inReach r) all rest (e .epoch)) in let m = e .end - k in
-      weight-append (cond b (take m ws) []) (shownIn (inReach r) (inReach r) all (spans (e .end) es (drop m ws)))
-      ∙ sums (ap (λ v. weight (cond b v [])) (rows-take rs base k (e .end) n low g) ∙ first)
-        (ap (λ v. weight (shownIn (inReach r) (inReach r) all (spans (e .end) es v)))
-          (rows-drop rs base k (e .end) n low g) ∙ ih)
+      let b = inReach r (e .epoch) && not (hidden (inReach r) all rest (e .epoch)) in
+      joins (ap (λ v. cond b v []) (rows-take rs base k (e .end) n low g) ∙ first)
+        (ap (λ v. shownIn (inReach r) (inReach r) all (spans (e .end) es v)) (rows-drop rs base k (e .end) n low g)
+          ∙ ih)
     where
-      sums : {a b c d : ℕ} → a ≡ b → c ≡ d → a + c ≡ b + d
-      sums p q = omega arith
+      joins : {a b c d : List ℕ} → a ≡ b → c ≡ d → a ++ c ≡ b ++ d
+      joins p q = cc
 
 -- of a sound partition: n rows from base on, and its entries
-module _ (r : Reach) (d : Cut) (es : List Entry) (rs : List ℕ) (base n : ℕ) (few : n ≤ rowsMax)
+module _ (r : Reach) (es : List Entry) (rs : List ℕ) (base n : ℕ) (few : n ≤ rowsMax)
     (fits : base + n ≤ length rs) (ok : endsOk n 0 es ≡ true) where
   abbrev u : Top
   u = foldl (topTurn r) noTop es
@@ -155,19 +150,15 @@ module _ (r : Reach) (d : Cut) (es : List Entry) (rs : List ℕ) (base n : ℕ) 
   abbrev ss : List Span
   ss = spans 0 es (part base n rs)
 
-  sum-weighs : shownSum rs (cutOf r u base) 0 es ≡ weightBy (inReach r) ss
-  unfolding weightBy shown
-  sum-weighs = let y : base + 0 ≡ base = omega arith in let z : n - 0 ≡ n = omega arith in
-      sym (rw (y, z) at (shown-sum r rs base n few ss u (top-reached r es noTop (inl refl))
+  pub rows-shown : shownRows rs (cutOf r u base) 0 es ≡ shown (inReach r) (inReach r) ss
+  unfolding shown
+  rows-shown = let y : base + 0 ≡ base = omega arith in let z : n - 0 ≡ n = omega arith in
+      sym (rw (y, z) at (shown-rows r rs base n few ss u (top-reached r es noTop (inl refl))
         (top-greatest r 0 es (part base n rs)) 0 es noTop ok (omega arith) refl))
 
-  -- whatever lands beside it
-  pub weighs : closedOf rs base (foldl (tallyTurn rs (record { shown = cutOf r u base; lands = d })) noTally es)
-      ≡ weightBy (inReach r) ss
-  unfolding closedOf
-  weighs = tally-sum rs (record { shown = cutOf r u base; lands = d }) n few fits es noTally
-        (record { ends = omega arith; sums = omega arith }) ok
-      ∙ (zero-add (shownSum rs (cutOf r u base) 0 es) ∙ sum-weighs)
+  sum-weighs : shownSum rs (cutOf r u base) 0 es ≡ weightBy (inReach r) ss
+  unfolding weightBy
+  sum-weighs = sym (rows-weigh rs (cutOf r u base) 0 es) ∙ ap weight rows-shown
 
   -- what a cut shows is above the epochs before
   above : (k j : ℕ) → k ≤ n → shows (cutOf r u base) k j ≡ true → r .over < j
@@ -183,12 +174,22 @@ module _ (r : Reach) (d : Cut) (es : List Entry) (rs : List ℕ) (base n : ℕ) 
             (λ a. let w = leb-true (u .epoch) j (rw a at v) in omega arith))
     (top-reached r es noTop (inl refl))
 
-  other : d .high ≤ r .over → (k j : ℕ) → k ≤ n → shows (cutOf r u base) k j ≡ true → shows d k j ≡ false
-  unfolding shows
-  other h k j l y = let g = above k j l y in rw (lt-leb j (d .high) (omega arith))
+  -- another cut beside it
+  module _ (d : Cut) where
+    -- whatever lands beside it
+    pub weighs : closedOf rs base (foldl (tallyTurn rs (record { shown = cutOf r u base; lands = d })) noTally es)
+        ≡ weightBy (inReach r) ss
+    unfolding closedOf
+    weighs = tally-sum rs (record { shown = cutOf r u base; lands = d }) n few fits es noTally
+          (record { ends = omega arith; sums = omega arith }) ok
+        ∙ (zero-add (shownSum rs (cutOf r u base) 0 es) ∙ sum-weighs)
 
-  pub weighs-more : d .high ≤ r .over
-      → foldl (tallyTurn rs (record { shown = d; lands = cutOf r u base })) noTally es .more ≡ weightBy (inReach r) ss
-  weighs-more h = more-sum rs (record { shown = d; lands = cutOf r u base }) n few fits (other h) es noTally
-        (omega arith) ok
-      ∙ (zero-add (shownSum rs (cutOf r u base) 0 es) ∙ sum-weighs)
+    other : d .high ≤ r .over → (k j : ℕ) → k ≤ n → shows (cutOf r u base) k j ≡ true → shows d k j ≡ false
+    unfolding shows
+    other h k j l y = let g = above k j l y in rw (lt-leb j (d .high) (omega arith))
+
+    pub weighs-more : d .high ≤ r .over
+        → foldl (tallyTurn rs (record { shown = d; lands = cutOf r u base })) noTally es .more ≡ weightBy (inReach r) ss
+    weighs-more h = more-sum rs (record { shown = d; lands = cutOf r u base }) n few fits (other h) es noTally
+          (omega arith) ok
+        ∙ (zero-add (shownSum rs (cutOf r u base) 0 es) ∙ sum-weighs)

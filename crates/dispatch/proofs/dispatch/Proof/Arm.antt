@@ -1,6 +1,7 @@
 -- The walk of one arm of the dispatcher's match, where its numbers are in their locals: slices are made of the
 -- caller's and the call is made.
---     armed        an arm that answers in local 12.        scanned      a scan, by way of locals i and 33
+--     armed, filed     an arm that answers in the match's local, and a recovery
+--     scanned          a scan or a save, by way of locals i and d
 -- Assumes `Given`.
 use mathlib.Core.Path.{_≡_, refl}
 use Prim.Native.Nat.{ℕ, zero, suc}
@@ -30,14 +31,15 @@ use Rattle.walks.proofs.Groups.{puts-at, relends}
 use Rattle.shapes.proofs.Core.{books}
 use Rattle.walks.proofs.Shown.{Shown}
 use Rattle.walks.proofs.Values.{Nums, vals, Fits}
-use Rattle.shapes.proofs.Callers.{Kind, look, write, bitmap, Lenders, besides, Lists, AsLong, Slices, Calls as Sig}
-use Rattle.shapes.proofs.Callers.{Tells-of, called}
+use Rattle.shapes.proofs.Callers.{Kind, look, write, bitmap, file, Lenders, besides, Lists, AsLong, Slices}
+use Rattle.shapes.proofs.Callers.{Calls as Sig, Tells-of, called}
 use Rattle.rules.specs.declared.Kept.{Kept}
 use Rattle.store.proofs.Types.{kept, answer}
 use Rattle.rules.proofs.Kept as KeptT
 use Rattle.rules.proofs.Kept.Laws as KeptL
 use Rattle.dispatch.proofs.Turning.{command}
-use Rattle.dispatch.proofs.dispatch.Proof.Match.{firsts, up, entry, word, lending, lent-to, scan-to}
+use Rattle.dispatch.proofs.dispatch.Proof.Match.{firsts, up, entry, word, result, lending, lending-bytes}
+use Rattle.dispatch.proofs.dispatch.Proof.Match.{lent-to, scan-to, file-to}
 
 abbrev pub kept-by : Answer → State → Kept
 kept-by a s = record { state = s; answer = a }
@@ -100,22 +102,28 @@ module _ {M : Type 1} (𝓤 : URA M) (H : Heap 𝓤) (A : Atoms 𝓤) (W : Given
       (vptr (y .x₂ .block) (y .x₂ .start)) (held (y .x₂))
   facts i m h = all-four m i _ _ _ _ h
 
-  -- with the bitmap's pointer and slice in locals 5 + i and 6 + i
-  abbrev pub scannedAt : ℕ → List Use → List Use
-  scannedAt i m = set (set (lentAt (up 1 i) m) (up 5 i) (holds (vptr (y .x₄ .block) (y .x₄ .start)))) (up 6 i) (holds
-      (held (y .x₄)))
+  -- with the pointer and the slice of the bytes in locals 4 + i and 5 + i
+  abbrev pub bytesAt : ℕ → List Use → List Use
+  bytesAt i m = set (set (lentAt i m) (up 4 i) (holds (vptr (y .x₄ .block) (y .x₄ .start)))) (up 5 i) (holds (held (y
+      .x₄)))
 
-  abbrev pub Scannable : ℕ → List Use → Type 0
-  Scannable i m = In (up 5 i) (lentAt (up 1 i) m) × Has (up 5 i) (set (lentAt (up 1 i) m) (up 5 i) (holds (vptr (y .x₄
-      .block) (y .x₄ .start)))) (vptr (y .x₄ .block) (y .x₄ .start)) × In (up 6 i) (set (lentAt (up 1 i) m) (up 5 i)
-      (holds (vptr (y .x₄ .block) (y .x₄ .start)))) × Has (up 2 i) (scannedAt i m) (held (y .x₁)) × Has (up 4 i)
-      (scannedAt i m) (held (y .x₂)) × Has (up 6 i) (scannedAt i m) (held (y .x₄)) × In i (scannedAt i m) × ((v : Val)
-      → Has i (set (scannedAt i m) i (holds v)) v) × ((v : Val)
-          → In 33 (set (scannedAt i m) i (holds v)))
+  abbrev pub Lendable : ℕ → List Use → Type 0
+  Lendable i m = In (up 3 i) m × In (up 4 i) (lentAt i m) × Has (up 4 i) (set (lentAt i m) (up 4 i) (holds (vptr (y .x₄
+      .block) (y .x₄ .start)))) (vptr (y .x₄ .block) (y .x₄ .start)) × In (up 5 i) (set (lentAt i m) (up 4 i) (holds
+      (vptr (y .x₄ .block) (y .x₄ .start)))) × Has (up 1 i) (bytesAt i m) (held (y .x₁)) × Has (up 3 i) (bytesAt i m)
+      (held (y .x₂)) × Has (up 5 i) (bytesAt i m) (held (y .x₄))
 
-  abbrev pub ScanTemps : ℕ → Type 0
-  ScanTemps i = Lies 𝓤 H Gs i (answer .mir) × Lies 𝓤 H Gs (up 5 i) (tyRef erased mut (tyInt w8)) × Lies 𝓤 H Gs (up 6
-      i) (sliceTy (tyRef erased mut (tyInt w8))) × Lies 𝓤 H Gs 33 (kept .mir)
+  abbrev pub BytesTemps : Mutability → ℕ → Type 0
+  BytesTemps ν i = Lies 𝓤 H Gs (up 4 i) (tyRef erased ν (tyInt w8)) × Lies 𝓤 H Gs (up 5 i) (sliceTy (tyRef erased ν
+      (tyInt w8)))
+
+  -- what is shown goes to local i, and with the books to local d
+  abbrev pub Scannable : ℕ → ℕ → List Use → Type 0
+  Scannable d i m = In i (bytesAt (up 1 i) m) × ((v : Val) → Has i (set (bytesAt (up 1 i) m) i (holds v)) v) × ((v :
+      Val) → In d (set (bytesAt (up 1 i) m) i (holds v)))
+
+  abbrev pub ScanTemps : ℕ → ℕ → Type 0
+  ScanTemps d i = Lies 𝓤 H Gs i (answer .mir) × Lies 𝓤 H Gs d (kept .mir)
 
   module _ {C : Calls 𝓤 H} (fm : FmC 𝓤 H (W .laws) C) {Λ : Loops 𝓤 H} {q : Post 𝓤 H} {m : List Use} where
     lends-two : (μ : Mutability) (i : ℕ) → Temps μ i → In (up 3 i) m → {Γ : List (Item 𝓤)} {rest : Body}
@@ -126,44 +134,64 @@ module _ {M : Type 1} (𝓤 : URA M) (H : Heap 𝓤) (A : Atoms 𝓤) (W : Given
         relends ! (y .x₂) 3 (up 2 i) (up 3 i) refl refl refl (y .room₂ .0) refl (t .2) (f .3) (f .4) refl (t .3) (f
             .5) $ s)
 
+    lends-three : (μ ν : Mutability) (i : ℕ) → Temps μ i → BytesTemps ν i → Lendable i m → {Γ : List (Item 𝓤)} {rest :
+        Body} → Step (Go {0}) W (Params ∷ Frame Gs (bytesAt i m) ∷ Γ) (runs C Λ E rest q) (Params ∷ Frame Gs m ∷ Γ)
+            (runs C Λ E (lending-bytes i rest) q)
+    lends-three μ ν i t b e = step (λ s. lends-two μ i t (e .0) $
+        relends ! (y .x₄) 5 (up 4 i) (up 5 i) refl refl refl (y .room₄ .0) refl (b .0) (e .1) (e .2) refl (b .1) (e
+            .3) $ s)
+
+    -- a recovery has no number
+    pub filed : (f : Name) (i : ℕ) → Temps mut i → BytesTemps imm i → Lendable i m → Lies 𝓤 H Gs result (kept .mir) → In
+        result (bytesAt i m)
+        → (c : Callee 𝓤 H A C f (Sig y kept bk [] tt file)) (φ : Kept → Lists → Type 0) → Tells-of y kept bk [] tt 𝓤 H
+            A C f file c φ
+        → ((r : Kept) (ls : Lists) → AsLong y ls → φ r ls → Is (kept .row) r (kept .val r ∷ []) → Sq W (Has-all ls ++
+            (Params ∷ Frame Gs (set (bytesAt i m) result (holds (kept .val r))) ∷ [])) (prop (post 𝓤 H q next)))
+        → Sq W (Params ∷ Frame Gs m ∷ Has-all lists) (runs C Λ E (file-to i f) q)
+    filed f i tm b e tr hr c φ told then = lends-three mut imm i tm b e $ move ! (2 ∷ 3 ∷ 4 ∷ 5 ∷ []) $
+        called y kept bk [] tt file (calling-last fm) tt gb c φ told
+        (λ i′ j l. and-then ! (get ! 3 1 refl refl refl) (and-then ! (get ! 4 (up 1 i) refl refl (e .4)) (and-then !
+            (get ! 4 (up 3 i) refl refl (e .5)) (and-then ! (get ! 4 (up 5 i) refl refl (e .6)) (no-more !))))) (λ r
+            ls al p is. land-last ! (spot ! tr (stop !)) (puts-at ! 5 result refl tr hr (kept .wt 𝓤 H A W r is)) $
+            then r ls al p is)
+
     module _ (f : Name) (xs : List Operand) (ps : List Shown) (t : Nums 0 tt ps) (fit : Fits 0 tt ps t) where
-      pub armed : (k : Kind) (μ : Mutability) (i : ℕ) → Temps μ i → In (up 3 i) m → Lies 𝓤 H Gs 12 (kept .mir) → In 12
-          (lentAt i m)
+      pub armed : (k : Kind) (μ : Mutability) (i : ℕ) → Temps μ i → In (up 3 i) m → Lies 𝓤 H Gs result (kept .mir)
+          → In result (lentAt i m)
           → (c : Callee 𝓤 H A C f (Sig y kept bk ps t k)) (φ : Kept → Lists → Type 0) → Tells-of y kept bk ps t 𝓤 H A
               C f k c φ
           → ((i′ j l : Item 𝓤) → Opds (Go {0}) W (i′ ∷ j ∷ l ∷ Params ∷ Frame Gs (lentAt i m) ∷ []) E xs (besides y k
               ++ vals 0 tt ps t))
           → ((r : Kept) (ls : Lists) → AsLong y ls → φ r ls → Is (kept .row) r (kept .val r ∷ []) → Sq W (Has-all ls
-              ++ (Params ∷ Frame Gs (set (lentAt i m) 12 (holds (kept .val r))) ∷ [])) (prop (post 𝓤 H q next)))
+              ++ (Params ∷ Frame Gs (set (lentAt i m) result (holds (kept .val r))) ∷ [])) (prop (post 𝓤 H q next)))
           → Sq W (Params ∷ Frame Gs m ∷ Has-all lists) (runs C Λ E (lent-to i f xs) q)
-      armed k μ i tm h t₁₂ h₁₂ c φ told os then = let g = facts i m h in lends-two μ i tm h $ move ! (2 ∷ 3 ∷ 4 ∷ 5 ∷
+      armed k μ i tm h tr hr c φ told os then = let g = facts i m h in lends-two μ i tm h $ move ! (2 ∷ 3 ∷ 4 ∷ 5 ∷
           []) $
           called y kept bk ps t k (calling-last fm) fit gb c φ told
           (λ i′ j l. and-then ! (get ! 3 1 refl refl refl) (and-then ! (get ! 4 (up 1 i) refl refl (g .6)) (and-then !
-              (get ! 4 (up 3 i) refl refl (g .7)) (os i′ j l)))) (λ r ls e p is. land-last ! (spot ! t₁₂ (stop !))
-              (puts-at ! 5 12 refl t₁₂ h₁₂ (kept .wt 𝓤 H A W r is)) $
+              (get ! 4 (up 3 i) refl refl (g .7)) (os i′ j l)))) (λ r ls e p is. land-last ! (spot ! tr (stop !))
+              (puts-at ! 5 result refl tr hr (kept .wt 𝓤 H A W r is)) $
               then r ls e p is)
 
-      pub scanned : (i : ℕ) → Temps imm (up 1 i) → In (up 4 i) m → ScanTemps i → Scannable i m
+      pub scanned : (d i : ℕ) → Temps imm (up 1 i) → BytesTemps mut (up 1 i) → Lendable (up 1 i) m → ScanTemps d i
+          → Scannable d i m
           → (c : Callee 𝓤 H A C f (Sig y answer bk ps t bitmap)) (φ : Answer → Lists → Type 0) → Tells-of y answer bk
               ps t 𝓤 H A C f bitmap c φ
-          → ((i′ j l : Item 𝓤) → Opds (Go {0}) W (i′ ∷ j ∷ l ∷ Params ∷ Frame Gs (scannedAt i m) ∷ []) E xs (vals 0
-              tt ps t))
+          → ((i′ j l : Item 𝓤) → Opds (Go {0}) W (i′ ∷ j ∷ l ∷ Params ∷ Frame Gs (bytesAt (up 1 i) m) ∷ []) E xs
+              (vals 0 tt ps t))
           → ((r : Answer) (ls : Lists) → AsLong y ls → φ r ls → Is (kept .row) (kept-by r bk) (kept .val (kept-by r
-              bk) ∷ []) → Sq W (Has-all ls ++ (Params ∷ Frame Gs (set (set (scannedAt i m) i (holds (answer .val r)))
-              33 (holds (kept .val (kept-by r bk)))) ∷ [])) (prop (post 𝓤 H q next)))
-          → Sq W (Params ∷ Frame Gs m ∷ Has-all lists) (runs C Λ E (scan-to i f xs) q)
-      scanned i tm h s e c φ told os then = lends-two imm (up 1 i) tm h $
-          relends ! (y .x₄) 5 (up 5 i) (up 6 i) refl refl refl (y .room₄ .0) refl (s .1) (e .0) (e .1) refl (s .2) (e
-              .2) $
-          move ! (2 ∷ 3 ∷ 4 ∷ 5 ∷ []) $
+              bk) ∷ []) → Sq W (Has-all ls ++ (Params ∷ Frame Gs (set (set (bytesAt (up 1 i) m) i (holds (answer .val
+              r))) d (holds (kept .val (kept-by r bk)))) ∷ [])) (prop (post 𝓤 H q next)))
+          → Sq W (Params ∷ Frame Gs m ∷ Has-all lists) (runs C Λ E (scan-to d i f xs) q)
+      scanned d i tm b e s h c φ told os then = lends-three imm mut (up 1 i) tm b e $ move ! (2 ∷ 3 ∷ 4 ∷ 5 ∷ []) $
           called y answer bk ps t bitmap (calling fm) fit gb c φ told
-          (λ i′ j l. and-then ! (get ! 3 1 refl refl refl) (and-then ! (get ! 4 (up 2 i) refl refl (e .3)) (and-then !
-              (get ! 4 (up 4 i) refl refl (e .4)) (and-then ! (get ! 4 (up 6 i) refl refl (e .5)) (os i′ j l)))))
+          (λ i′ j l. and-then ! (get ! 3 1 refl refl refl) (and-then ! (get ! 4 (up 2 i) refl refl (e .4)) (and-then !
+              (get ! 4 (up 4 i) refl refl (e .5)) (and-then ! (get ! 4 (up 6 i) refl refl (e .6)) (os i′ j l)))))
           (λ r ls al p is. let ga : Is (kept .row) (kept-by r bk) (kept .val (kept-by r bk) ∷ []) = LL.owes
               KeptT.the-type KeptL.the-laws (kept-by r bk) (gb, (is, tt)) in
-          land ! (spot ! (s .0) (stop !)) (puts-at ! 5 i refl (s .0) (e .6) (answer .wt 𝓤 H A W r is)) $
-          assigns-last ! (agg ! (and-then ! (get ! 4 1 refl refl refl) (and-then ! (get ! 5 i refl refl (e .7 _))
-              (no-more !)))) (spot ! (s .3) (stop !)) (puts-at ! 5 33 refl (s .3) (e .8 _) (kept .wt 𝓤 H A W (kept-by
+          land ! (spot ! (s .0) (stop !)) (puts-at ! 5 i refl (s .0) (h .0) (answer .wt 𝓤 H A W r is)) $
+          assigns-last ! (agg ! (and-then ! (get ! 4 1 refl refl refl) (and-then ! (get ! 5 i refl refl (h .1 _))
+              (no-more !)))) (spot ! (s .1) (stop !)) (puts-at ! 5 d refl (s .1) (h .2 _) (kept .wt 𝓤 H A W (kept-by
               r bk) ga)) $
           then r ls al p ga)

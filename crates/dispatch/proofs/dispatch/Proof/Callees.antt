@@ -1,4 +1,4 @@
--- What the dispatcher's callees meet: the public calls of store, each by its theorem.
+-- What the dispatcher's callees meet: the public calls of store and recovery, each by its theorem.
 --     Known        of a table of calls.        knowns       of the dispatcher's own
 --     create-by and so on      each as a callee.        plus, swapped    what they say, as the dispatcher says it
 -- Assumes nothing.
@@ -42,6 +42,12 @@ use Rattle.store.proofs.roll_back.Met as roll-back-thm
 use Rattle.store.proofs.purge as purge
 use Rattle.store.proofs.purge.Symbol as purge-def
 use Rattle.store.proofs.purge.Met as purge-thm
+use Rattle.recovery.proofs.save as save
+use Rattle.recovery.proofs.save.Symbol as save-def
+use Rattle.recovery.proofs.save.Met as save-thm
+use Rattle.recovery.proofs.recover as recover
+use Rattle.recovery.proofs.recover.Symbol as recover-def
+use Rattle.recovery.proofs.recover.Met as recover-thm
 use Rattle.walks.proofs.Loans.{Callee}
 use Rattle.dispatch.proofs.dispatch.Code as code
 
@@ -57,12 +63,14 @@ pub record Known {M : Type 1} (𝓤 : URA M) (H : Heap 𝓤) (A : Atoms 𝓤) (a
   pub of-scan-rw : Triple 𝓤 (C scan-rw-def.name) (tripleOf 𝓤 H A scan-rw.signature (scan-rw.spec 𝓤 H A at-mem run))
   pub of-scan-ro : Triple 𝓤 (C scan-ro-def.name) (tripleOf 𝓤 H A scan-ro.signature (scan-ro.spec 𝓤 H A at-mem run))
   pub of-purge : Triple 𝓤 (C purge-def.name) (tripleOf 𝓤 H A purge.signature (purge.spec 𝓤 H A at-mem run))
+  pub of-save : Triple 𝓤 (C save-def.name) (tripleOf 𝓤 H A save.signature (save.spec 𝓤 H A at-mem run))
+  pub of-recover : Triple 𝓤 (C recover-def.name) (tripleOf 𝓤 H A recover.signature (recover.spec 𝓤 H A at-mem run))
 
--- what a call says, with what it leaves of the bitmap
+-- what a call says, with what it leaves of the bytes
 pub plus : {M : Type 1} (𝓤 : URA M) {P : Type 0} {l l′ : List ℕ} → l ≡ l′ → ent 𝓤 (fact 𝓤 P) (fact 𝓤 (P × (l ≡ l′)))
 plus 𝓤 {P} {l} {l′} e = fact-use 𝓤 P (id⊢ 𝓤 _) (λ p. factI 𝓤 (P × (l ≡ l′)) _ (p, e))
 
--- what a scan says, as the dispatcher says it
+-- what a scan or a save says, as the dispatcher says it
 pub swapped : {M : Type 1} (𝓤 : URA M) {P Q R : Type 0} → ent 𝓤 (fact 𝓤 (P × Q × R)) (fact 𝓤 ((P × R) × Q))
 swapped 𝓤 {P} {Q} {R} = fact-use 𝓤 (P × Q × R) (id⊢ 𝓤 _) (λ q. factI 𝓤 ((P × R) × Q) _ ((q .0, q .2), q .1))
 
@@ -96,6 +104,13 @@ module _ {M : Type 1} (𝓤 : URA M) (H : Heap 𝓤) (A : Atoms 𝓤) (at-mem : 
   abbrev pub purge-by : Callee 𝓤 H A C purge-def.name purge.ended
   purge-by = record { clauses = purge.clauses 𝓤 H A at-mem run; met = known .of-purge; free = λ _ _. (tt, id⊢ 𝓤 _) }
 
+  abbrev pub save-by : Callee 𝓤 H A C save-def.name save.ended
+  save-by = record { clauses = save.clauses 𝓤 H A at-mem run; met = known .of-save; free = λ _ _. (tt, id⊢ 𝓤 _) }
+
+  abbrev pub recover-by : Callee 𝓤 H A C recover-def.name recover.ended
+  recover-by = record { clauses = recover.clauses 𝓤 H A at-mem run; met = known .of-recover; free = λ _ _. (tt, id⊢ 𝓤
+      _) }
+
 pub knowns : {M : Type 1} (𝓤 : URA M) (H : Heap 𝓤) (𝓜 : Model 𝓤 H) (𝓖 : GhostRules 𝓤 H) (𝓡 : Running 𝓤 H 𝓜)
     → Known 𝓤 H (𝓖 .A) (𝓜 .mem) (𝓡 .run) (tables 𝓤 H 𝓜 𝓡 code.env .C)
 knowns 𝓤 H 𝓜 𝓖 𝓡 = record {
@@ -108,4 +123,6 @@ knowns 𝓤 H 𝓜 𝓖 𝓡 = record {
   of-scan-rw = cited 𝓤 H _ 𝓜 𝓡 code.env scan-rw-def.name _ code.calls-store·scan-rw (scan-rw-thm.met 𝓤 H 𝓜 𝓖 𝓡);
   of-scan-ro = cited 𝓤 H _ 𝓜 𝓡 code.env scan-ro-def.name _ code.calls-store·scan-ro (scan-ro-thm.met 𝓤 H 𝓜 𝓖 𝓡);
   of-purge = cited 𝓤 H _ 𝓜 𝓡 code.env purge-def.name _ code.calls-store·purge (purge-thm.met 𝓤 H 𝓜 𝓖 𝓡);
+  of-save = cited 𝓤 H _ 𝓜 𝓡 code.env save-def.name _ code.calls-recovery·save (save-thm.met 𝓤 H 𝓜 𝓖 𝓡);
+  of-recover = cited 𝓤 H _ 𝓜 𝓡 code.env recover-def.name _ code.calls-recovery·recover (recover-thm.met 𝓤 H 𝓜 𝓖 𝓡);
 }

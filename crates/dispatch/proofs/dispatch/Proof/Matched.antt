@@ -37,7 +37,8 @@ use denote.Exit.{yes}
 use Rattle.rules.specs.Step.{step, callOf}
 use Rattle.rules.specs.declared.Answer.{Answer}
 use Rattle.rules.specs.declared.Command.{Command}
-use Rattle.rules.specs.declared.Command.the-variants.{Create, Manage, Append, Clear, RollBack, Scan, Purge}
+use Rattle.rules.specs.declared.Command.the-variants.{Create, Manage, Append, Clear, RollBack, Scan, Purge, Save}
+use Rattle.rules.specs.declared.Command.the-variants.{Recover}
 use Rattle.rules.specs.declared.Reader.{Reader}
 use Rattle.rules.specs.declared.Reader.the-variants.{Rw, Ro}
 use Rattle.rules.specs.declared.State.{State}
@@ -62,12 +63,16 @@ use Rattle.store.proofs.append.Symbol as append-def
 use Rattle.store.proofs.clear.Symbol as clear-def
 use Rattle.store.proofs.scan_rw.Symbol as scan-rw-def
 use Rattle.store.proofs.scan_ro.Symbol as scan-ro-def
+use Rattle.recovery.proofs.save.Symbol as save-def
+use Rattle.recovery.proofs.recover.Symbol as recover-def
 use Rattle.dispatch.specs.Dispatch.{Did}
 use Rattle.dispatch.proofs.Turning.{command}
 use Rattle.dispatch.proofs.dispatch as f
-use Rattle.dispatch.proofs.dispatch.Proof.Arm.{kept-by, kindOf, none, Params, Temps, lentAt, armed, scanned}
-use Rattle.dispatch.proofs.dispatch.Proof.Match.{reader, word, firsts, others, loc, up, bound, nums, lent-to}
-use Rattle.dispatch.proofs.dispatch.Proof.Match.{scan-to, the-answer, one-number, scans, the-match, the-rest}
+use Rattle.dispatch.proofs.dispatch.Proof.Arm.{kept-by, kindOf, none, Params, Temps, lentAt, armed, filed}
+use Rattle.dispatch.proofs.dispatch.Proof.Arm.{scanned}
+use Rattle.dispatch.proofs.dispatch.Proof.Match.{reader, word, firsts, others, result, shown, loc, up, bound}
+use Rattle.dispatch.proofs.dispatch.Proof.Match.{nums, lent-to, scan-to, file-to, the-answer, one-number, scans}
+use Rattle.dispatch.proofs.dispatch.Proof.Match.{the-match, the-rest}
 use Rattle.dispatch.proofs.dispatch.Proof.Callees as by-theorem
 use Rattle.dispatch.proofs.dispatch.Proof.Callees.{Known, plus, swapped}
 
@@ -149,11 +154,11 @@ module _ {M : Type 1} (𝓤 : URA M) (H : Heap 𝓤) (A : Atoms 𝓤) (W : Given
     Opened cm = Walked cm fresh
 
     -- the value of the match is returned, and the locals are freed
-    leaves : (cm : Command) (m : List Use) (r : Kept) → Has 12 m (kept .val r) → (ls : Lists) → AsLong y ls → Done cm
-        r ls → Is (kept .row) r (kept .val r ∷ []) → Sq W (Slices y ls ++ (Given-to cm ∷ Frame Gs m ∷ [])) (prop (post
-        𝓤 H (Then cm) next))
+    leaves : (cm : Command) (m : List Use) (r : Kept) → Has result m (kept .val r) → (ls : Lists) → AsLong y ls → Done
+        cm r ls → Is (kept .row) r (kept .val r ∷ []) → Sq W (Slices y ls ++ (Given-to cm ∷ Frame Gs m ∷ [])) (prop
+        (post 𝓤 H (Then cm) next))
     leaves cm m r h ls e did ga = exec ! C Λ E the-rest (atRet E (Post cm)) $
-        assigns ! (of-opd ! (get ! 5 12 refl refl h)) (spot ! refl (stop !)) (sets ! 4 0 refl tt (kept .wt 𝓤 H A W r
+        assigns ! (of-opd ! (get ! 5 result refl refl h)) (spot ! refl (stop !)) (sets ! 4 0 refl tt (kept .wt 𝓤 H A W r
             ga)) $ returns ! (look-in ! 4 (within ! 0 refl)) $
         move ! (4 ∷ 5 ∷ []) $ frees-frame ! (envOf firsts fs) Gs $ frees-frame ! Gs [] $ free0 ! $
         by ! (exits cm r ls e did ga)
@@ -161,15 +166,15 @@ module _ {M : Type 1} (𝓤 : URA M) (H : Heap 𝓤) (A : Atoms 𝓤) (W : Given
     abbrev Answering : Command → Kit.Post 𝓤 H
     Answering cm = anyQ (afterSeq 𝓤 H (Wp 𝓤 H C Λ E the-answer (post 𝓤 H (Then cm))) (post 𝓤 H (Then cm)))
 
-    -- the answer of a scan goes from local 33 to 12
-    answers : (cm : Command) (m : List Use) (r : Answer) → Has 33 m (kept .val (kept-by r bk)) → In 12 m → ((v : Val)
-        → Has 12 (set m 12 (holds v)) v) → (ls : Lists) → AsLong y ls → Done cm (kept-by r bk) ls
+    -- the answer of a scan goes from one match's local to the other's
+    answers : (cm : Command) (m : List Use) (r : Answer) → Has shown m (kept .val (kept-by r bk)) → In result m
+        → ((v : Val) → Has result (set m result (holds v)) v) → (ls : Lists) → AsLong y ls → Done cm (kept-by r bk) ls
         → Is (kept .row) (kept-by r bk) (kept .val (kept-by r bk) ∷ [])
         → Sq W (Slices y ls ++ (Given-to cm ∷ Frame Gs m ∷ [])) (prop (post 𝓤 H (Answering cm) next))
-    answers cm m r h i₁₂ h₁₂ ls e did ga = exec ! C Λ E the-answer (Then cm) $
-        assigns-last ! (of-opd ! (get ! 5 33 refl refl h)) (spot ! (lies 12 (kept .mir) refl) (stop !)) (puts-at ! 5
-            12 refl (lies 12 (kept .mir) refl) i₁₂ (kept .wt 𝓤 H A W (kept-by r bk) ga)) $
-        leaves cm _ (kept-by r bk) (h₁₂ _) ls e did ga
+    answers cm m r h ir hr ls e did ga = exec ! C Λ E the-answer (Then cm) $
+        assigns-last ! (of-opd ! (get ! 5 shown refl refl h)) (spot ! (lies result (kept .mir) refl) (stop !)) (puts-at
+            ! 5 result refl (lies result (kept .mir) refl) ir (kept .wt 𝓤 H A W (kept-by r bk) ga)) $
+        leaves cm _ (kept-by r bk) (hr _) ls e did ga
 
     abbrev lent : ℕ → List Use → List Use
     lent = lentAt 𝓤 H A W y bk gb fs Gs (Create 0)
@@ -180,16 +185,16 @@ module _ {M : Type 1} (𝓤 : URA M) (H : Heap 𝓤) (A : Atoms 𝓤) (W : Given
 
     -- an arm with one value x, field 1 of variant v, in local n: its slices from local i on
     one : (cm : Command) (v : ℕ) (P : Shown) (x : P .row .Denot) (n i : ℕ) (μ : Mutability) {f : Name} → Temps 𝓤 H A W y
-        bk gb fs Gs cm μ i → Lies 𝓤 H Gs n (P .mir) → In n fresh → In (up 3 i) (with-one n (P .val x)) → In 12 (lent i
-        (with-one n (P .val x))) → Has n (lent i (with-one n (P .val x))) (P .val x) → ((r : Kept) → Has 12 (set (lent i
-        (with-one n (P .val x))) 12 (holds (kept .val r))) (kept .val r))
+        bk gb fs Gs cm μ i → Lies 𝓤 H Gs n (P .mir) → In n fresh → In (up 3 i) (with-one n (P .val x)) → In result (lent
+        i (with-one n (P .val x))) → Has n (lent i (with-one n (P .val x))) (P .val x) → ((r : Kept) → Has result (set
+        (lent i (with-one n (P .val x))) result (holds (kept .val r))) (kept .val r))
         → Opd (Kit.Go {0}) W (Opened cm) E (copy (place 6 (variant v ∷ field 1 ∷ []))) (P .val x)
         → Is (P .row) x (P .val x ∷ []) → (c : Callee 𝓤 H A C f (Sig y kept bk (P ∷ []) (x, tt) (kindOf μ)))
         → Tells-of y kept bk (P ∷ []) (x, tt) 𝓤 H A C f (kindOf μ) c (Done cm)
         → Sq W (Opened cm) (prop (Wp 𝓤 H C Λ E (one-number v n i f) (post 𝓤 H (Then cm))))
-    one cm v P x n i μ {f} t tn hn hi h₁₂ hx hr rd fits c told = exec ! C Λ E (one-number v n i f) (Then cm) $
+    one cm v P x n i μ {f} t tn hn hi hw hx hr rd fits c told = exec ! C Λ E (one-number v n i f) (Then cm) $
         assigns ! (of-opd ! rd) (spot ! tn (stop !)) (puts-at ! 1 n refl tn hn (P .wt 𝓤 H A W x fits)) $
-        armed 𝓤 H A W y bk gb fs Gs cm fm f (nums (n ∷ [])) (P ∷ []) (x, tt) (fits, tt) (kindOf μ) μ i t hi refl h₁₂ c
+        armed 𝓤 H A W y bk gb fs Gs cm fm f (nums (n ∷ [])) (P ∷ []) (x, tt) (fits, tt) (kindOf μ) μ i t hi refl hw c
             (Done cm) told (λ i′ j l. subst (λ (vs : List Val). Opds (Kit.Go {0}) W (i′ ∷ j ∷ l ∷ Given-to cm ∷ Frame Gs
             (lent i (with-one n (P .val x))) ∷ []) E (nums (n ∷ [])) (vs ++ (P .val x ∷ []))) (none y μ) (and-then !
                 (get
@@ -201,32 +206,30 @@ module _ {M : Type 1} (𝓤 : URA M) (H : Heap 𝓤) (A : Atoms 𝓤) (W : Given
             (Then (Scan rd p)))
     scans-by (Rw i) p g fp = let fi = EL.owed Rd.the-type Rd′.the-laws (Rw i) _ g .0 .1 in first ! $
         switches-on ! (load ! (spot ! l7 (vrt ! refl (fld ! refl (stop !)))) (look-tag ! 1 (part-of ! 7 l7 refl))) $
-        exec ! C Λ E (bound (loc 7) 0 1 9 (scan-to 34 scan-rw-def.name (nums (9 ∷ 8 ∷ [])))) (Answering (Scan (Rw
+        exec ! C Λ E (bound (loc 7) 0 1 9 (scan-to shown 35 scan-rw-def.name (nums (9 ∷ 8 ∷ [])))) (Answering (Scan (Rw
             i) p)) $
         assigns ! (of-opd ! (load ! (spot ! l7 (vrt ! refl (fld ! refl (stop !)))) (look-in ! 1 (in-variant ! 0 0 refl
             refl (part-of ! 7 l7 refl))))) (spot ! (lies 9 word refl) (stop !)) (puts-at ! 1 9 refl (lies 9 word
             refl) tt (tt, record { fits = fi })) $
         scanned 𝓤 H A W y bk gb fs Gs (Scan (Rw i) p) fm scan-rw-def.name (nums (9 ∷ 8 ∷ [])) (number ∷ number ∷ [])
             (i, (p, tt))
-            ((refl, fi), ((refl, fp), tt)) 34 (refl, refl, refl, refl) tt (refl, refl, refl, refl) (tt, refl, tt,
-            refl, refl, refl, tt, (λ _.
-            refl), (λ _. tt)) (by-theorem.scan-rw-by 𝓤 H A at-mem run C known) (λ r. Done (Scan (Rw i) p) (kept-by r
-                bk)) (λ _ _ _. swapped 𝓤)
+            ((refl, fi), ((refl, fp), tt)) shown 35 (refl, refl, refl, refl) (refl, refl) (tt, tt, refl, tt, refl,
+            refl, refl) (refl, refl) (tt, (λ _. refl), (λ _. tt)) (by-theorem.scan-rw-by 𝓤 H A at-mem run C known)
+            (λ r. Done (Scan (Rw i) p) (kept-by r bk)) (λ _ _ _. swapped 𝓤)
         (λ _ _ _. and-then ! (get ! 4 9 refl refl refl) (and-then ! (get ! 4 8 refl refl refl) (no-more !)))
         (λ r. answers (Scan (Rw i) p) _ r refl tt (λ _. refl))
     scans-by (Ro i) p g fp = let fi = EL.owed Rd.the-type Rd′.the-laws (Ro i) _ g .0 .1 in first ! $
         switches-on ! (load ! (spot ! l7 (vrt ! refl (fld ! refl (stop !)))) (look-tag ! 1 (part-of ! 7 l7 refl))) $
-        exec ! C Λ E (bound (loc 7) 1 1 10 (scan-to 41 scan-ro-def.name (nums (10 ∷ 8 ∷ [])))) (Answering (Scan (Ro
-            i) p)) $
+        exec ! C Λ E (bound (loc 7) 1 1 10 (scan-to shown 42 scan-ro-def.name (nums (10 ∷ 8 ∷ [])))) (Answering (Scan
+            (Ro i) p)) $
         assigns ! (of-opd ! (load ! (spot ! l7 (vrt ! refl (fld ! refl (stop !)))) (look-in ! 1 (in-variant ! 1 0 refl
             refl (part-of ! 7 l7 refl))))) (spot ! (lies 10 word refl) (stop !)) (puts-at ! 1 10 refl (lies 10 word
             refl) tt (tt, record { fits = fi })) $
         scanned 𝓤 H A W y bk gb fs Gs (Scan (Ro i) p) fm scan-ro-def.name (nums (10 ∷ 8 ∷ [])) (number ∷ number ∷ [])
             (i, (p, tt))
-            ((refl, fi), ((refl, fp), tt)) 41 (refl, refl, refl, refl) tt (refl, refl, refl, refl) (tt, refl, tt,
-            refl, refl, refl, tt, (λ _.
-            refl), (λ _. tt)) (by-theorem.scan-ro-by 𝓤 H A at-mem run C known) (λ r. Done (Scan (Ro i) p) (kept-by r
-                bk)) (λ _ _ _. swapped 𝓤)
+            ((refl, fi), ((refl, fp), tt)) shown 42 (refl, refl, refl, refl) (refl, refl) (tt, tt, refl, tt, refl,
+            refl, refl) (refl, refl) (tt, (λ _. refl), (λ _. tt)) (by-theorem.scan-ro-by 𝓤 H A at-mem run C known)
+            (λ r. Done (Scan (Ro i) p) (kept-by r bk)) (λ _ _ _. swapped 𝓤)
         (λ _ _ _. and-then ! (get ! 4 10 refl refl refl) (and-then ! (get ! 4 8 refl refl refl) (no-more !)))
         (λ r. answers (Scan (Ro i) p) _ r refl tt (λ _. refl))
 
@@ -234,21 +237,21 @@ module _ {M : Type 1} (𝓤 : URA M) (H : Heap 𝓤) (A : Atoms 𝓤) (W : Given
         cm))
     matched (Create n) g =
         switches-on ! (load ! (spot ! l6 (vrt ! refl (fld ! refl (stop !)))) (look-tag ! 0 (part-of ! 6 l6 refl))) $
-        one (Create n) 0 number n 0 13 imm (refl, refl, refl, refl) refl tt tt tt refl (λ _. refl) (load ! (spot !
+        one (Create n) 0 number n 0 14 imm (refl, refl, refl, refl) refl tt tt tt refl (λ _. refl) (load ! (spot !
             l6 (vrt !
             refl (fld ! refl (stop !)))) (look-in ! 0 (in-variant ! 0 0 refl refl (part-of ! 6 l6 refl)))) (EL.owed
             Cm.the-type Cm′.the-laws (Create n) _ g .0) (by-theorem.create-by 𝓤 H A at-mem run C known) (λ _ _ _.
             plus 𝓤 refl)
     matched (Manage c) g =
         switches-on ! (load ! (spot ! l6 (vrt ! refl (fld ! refl (stop !)))) (look-tag ! 0 (part-of ! 6 l6 refl))) $
-        one (Manage c) 1 managerCall c 1 17 imm (refl, refl, refl, refl) refl tt tt tt refl (λ
+        one (Manage c) 1 managerCall c 1 18 imm (refl, refl, refl, refl) refl tt tt tt refl (λ
             _. refl) (load ! (spot ! l6 (vrt ! refl (fld ! refl (stop !)))) (look-in ! 0 (in-variant ! 1 0 refl refl
             (part-of ! 6 l6 refl)))) (EL.owed Cm.the-type Cm′.the-laws (Manage c) _ g .0) (by-theorem.manage-by 𝓤 H A
             at-mem run C known) (λ _ _ _. plus 𝓤 refl)
     matched (Append i p) g =
         let fits = EL.owed Cm.the-type Cm′.the-laws (Append i p) _ g in
         switches-on ! (load ! (spot ! l6 (vrt ! refl (fld ! refl (stop !)))) (look-tag ! 0 (part-of ! 6 l6 refl))) $
-        exec ! C Λ E (bound 6 2 1 2 (bound 6 2 2 3 (lent-to 21 append-def.name (copy (place 4 []) ∷ nums (2 ∷ 3 ∷
+        exec ! C Λ E (bound 6 2 1 2 (bound 6 2 2 3 (lent-to 22 append-def.name (copy (place 4 []) ∷ nums (2 ∷ 3 ∷
             []))))) (Then (Append i p)) $
         assigns ! (of-opd ! (load ! (spot ! l6 (vrt ! refl (fld ! refl (stop !)))) (look-in ! 0 (in-variant ! 2 0 refl
             refl (part-of ! 6 l6 refl))))) (spot ! (lies 2 word refl) (stop !)) (puts-at ! 1 2 refl (lies 2 word refl)
@@ -257,14 +260,14 @@ module _ {M : Type 1} (𝓤 : URA M) (H : Heap 𝓤) (A : Atoms 𝓤) (W : Given
             refl (part-of ! 6 l6 refl))))) (spot ! (lies 3 word refl) (stop !)) (puts-at ! 1 3 refl (lies 3 word refl)
             tt (tt, record { fits = fits .1 .0 .1 })) $
         armed 𝓤 H A W y bk gb fs Gs (Append i p) fm append-def.name (copy (place 4 []) ∷ nums (2 ∷ 3 ∷ [])) (number ∷
-            number ∷ []) (i, (p, tt)) (fits .0, (fits .1 .0, tt)) batch mut 21 (refl, refl, refl, refl) tt refl tt
+            number ∷ []) (i, (p, tt)) (fits .0, (fits .1 .0, tt)) batch mut 22 (refl, refl, refl, refl) tt refl tt
             (by-theorem.append-by 𝓤 H A at-mem run C known) (Done (Append i p)) (λ _ _ _. plus 𝓤 refl)
         (λ _ _ _. and-then ! (get ! 3 4 refl refl refl) (and-then ! (get ! 4 2 refl refl refl) (and-then ! (get ! 4 3
             refl refl refl) (no-more !)))) (λ r ls e did is. leaves (Append i p) _ r refl ls e did is)
     matched (Clear i p) g =
         let fits = EL.owed Cm.the-type Cm′.the-laws (Clear i p) _ g in
         switches-on ! (load ! (spot ! l6 (vrt ! refl (fld ! refl (stop !)))) (look-tag ! 0 (part-of ! 6 l6 refl))) $
-        exec ! C Λ E (bound 6 3 1 4 (bound 6 3 2 5 (lent-to 25 clear-def.name (nums (4 ∷ 5 ∷ []))))) (Then (Clear i
+        exec ! C Λ E (bound 6 3 1 4 (bound 6 3 2 5 (lent-to 26 clear-def.name (nums (4 ∷ 5 ∷ []))))) (Then (Clear i
             p)) $
         assigns ! (of-opd ! (load ! (spot ! l6 (vrt ! refl (fld ! refl (stop !)))) (look-in ! 0 (in-variant ! 3 0 refl
             refl (part-of ! 6 l6 refl))))) (spot ! (lies 4 word refl) (stop !)) (puts-at ! 1 4 refl (lies 4 word refl)
@@ -274,14 +277,14 @@ module _ {M : Type 1} (𝓤 : URA M) (H : Heap 𝓤) (A : Atoms 𝓤) (W : Given
             tt (tt, record { fits = fits .1 .0 .1 })) $
         armed 𝓤 H A W y bk gb fs Gs (Clear i p) fm clear-def.name (nums (4 ∷ 5 ∷ [])) (number ∷ number ∷ []) (i, (p,
             tt)) (fits
-            .0, (fits .1 .0, tt)) write mut 25 (refl, refl, refl, refl) tt refl tt (by-theorem.clear-by 𝓤 H A
+            .0, (fits .1 .0, tt)) write mut 26 (refl, refl, refl, refl) tt refl tt (by-theorem.clear-by 𝓤 H A
             at-mem run C
             known) (Done (Clear i p)) (λ _ _ _. plus 𝓤 refl)
         (λ _ _ _. and-then ! (get ! 4 4 refl refl refl) (and-then ! (get ! 4 5 refl refl refl) (no-more !))) (λ r ls e
             did is. leaves (Clear i p) _ r refl ls e did is)
     matched (RollBack n) g =
         switches-on ! (load ! (spot ! l6 (vrt ! refl (fld ! refl (stop !)))) (look-tag ! 0 (part-of ! 6 l6 refl))) $
-        one (RollBack n) 4 number n 6 29 mut (refl, refl, refl, refl) refl tt tt tt refl (λ _. refl) (load ! (spot !
+        one (RollBack n) 4 number n 6 30 mut (refl, refl, refl, refl) refl tt tt tt refl (λ _. refl) (load ! (spot !
             l6 (vrt
             ! refl (fld ! refl (stop !)))) (look-in ! 0 (in-variant ! 4 0 refl refl (part-of ! 6 l6 refl)))) (EL.owed
             Cm.the-type Cm′.the-laws (RollBack n) _ g .0) (by-theorem.roll-back-by 𝓤 H A at-mem run C known) (λ _ _
@@ -299,8 +302,27 @@ module _ {M : Type 1} (𝓤 : URA M) (H : Heap 𝓤) (A : Atoms 𝓤) (W : Given
         scans-by rd p (fits .0) (fits .1 .0 .1)
     matched (Purge n) g =
         switches-on ! (load ! (spot ! l6 (vrt ! refl (fld ! refl (stop !)))) (look-tag ! 0 (part-of ! 6 l6 refl))) $
-        one (Purge n) 6 number n 11 48 mut (refl, refl, refl, refl) refl tt tt tt refl (λ _. refl) (load ! (spot !
+        one (Purge n) 6 number n 11 49 mut (refl, refl, refl, refl) refl tt tt tt refl (λ _. refl) (load ! (spot !
             l6 (vrt !
             refl (fld ! refl (stop !)))) (look-in ! 0 (in-variant ! 6 0 refl refl (part-of ! 6 l6 refl)))) (EL.owed
             Cm.the-type Cm′.the-laws (Purge n) _ g .0) (by-theorem.purge-by 𝓤 H A at-mem run C known) (λ _ _ _.
             plus 𝓤 refl)
+    matched (Save n) g =
+        let fits = EL.owed Cm.the-type Cm′.the-laws (Save n) _ g in
+        switches-on ! (load ! (spot ! l6 (vrt ! refl (fld ! refl (stop !)))) (look-tag ! 0 (part-of ! 6 l6 refl))) $
+        exec ! C Λ E (bound 6 7 1 12 (scan-to result 53 save-def.name (nums (12 ∷ [])))) (Then (Save n)) $
+        assigns ! (of-opd ! (load ! (spot ! l6 (vrt ! refl (fld ! refl (stop !)))) (look-in ! 0 (in-variant ! 7 0 refl
+            refl (part-of ! 6 l6 refl))))) (spot ! (lies 12 word refl) (stop !)) (puts-at ! 1 12 refl (lies 12 word
+            refl) tt (tt, record { fits = fits .0 .1 })) $
+        scanned 𝓤 H A W y bk gb fs Gs (Save n) fm save-def.name (nums (12 ∷ [])) (number ∷ []) (n, tt) (fits .0, tt)
+            result 53 (refl, refl, refl, refl) (refl, refl) (tt, tt, refl, tt, refl, refl, refl) (refl, refl) (tt, (λ
+            _. refl), (λ _. tt)) (by-theorem.save-by 𝓤 H A at-mem run C known) (λ r. Done (Save n) (kept-by r bk)) (λ _
+            _ _. swapped 𝓤)
+        (λ _ _ _. and-then ! (get ! 4 12 refl refl refl) (no-more !))
+        (λ r ls e did is. leaves (Save n) _ (kept-by r bk) refl ls e did is)
+    matched Recover g =
+        switches-on ! (load ! (spot ! l6 (vrt ! refl (fld ! refl (stop !)))) (look-tag ! 0 (part-of ! 6 l6 refl))) $
+        exec ! C Λ E (file-to 60 recover-def.name) (Then Recover) $
+        filed 𝓤 H A W y bk gb fs Gs Recover fm recover-def.name 60 (refl, refl, refl, refl) (refl, refl) (tt, tt, refl,
+            tt, refl, refl, refl) refl tt (by-theorem.recover-by 𝓤 H A at-mem run C known) (Done Recover) (λ _ _ _. plus
+            𝓤 refl) (λ r ls e did is. leaves Recover _ r refl ls e did is)

@@ -1,17 +1,20 @@
 -- `begin` meets its contract. Assumes nothing.
-use mathlib.Core.Path.{_∙_}
 use borrow.Author.Needs.{needs}
-use Rattle.lists.proofs.Laws.Branches.{tests}
-use Rattle.partition_sound.specs.Asked.{lengthsAre}
+use Rattle.lists.proofs.Laws.Branches.{said-yes, said-no}
 use Rattle.partition_sound.proofs.rest.begin.Statement.{statement}
 use Rattle.partition_sound.proofs.rest.begin.Tie as tie
 
+returns : tie.Need-returns
+returns c = rw (said-no (c .before .lengths-ok .ensures) (c .if1 .taken))
+
+returns-2 : tie.Need-returns-2
+returns-2 c = rw (said-yes (c .before .before .lengths-ok .ensures) (c .before .if1 .left), c .areas-ok .ensures)
+
 pub begin-spec : {M : Type 1} → statement M
-unfolding lengthsAre
 begin-spec =
     tie.close
     (tie.spec
-    (λ c. search tests)
-    (λ c. search tests)
     (λ c κs. search needs)
-    (λ c. c .areas-ok .ensures ∙ search tests))
+    returns
+    (λ c κs. search needs)
+    returns-2)

@@ -1,0 +1,4 @@
+pub mod Bodies
+pub mod Each
+pub mod Restore
+pub mod Save

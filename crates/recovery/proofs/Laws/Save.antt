@@ -1,0 +1,58 @@
+-- What a save decides by value is what step leaves. Definitions: plan_save/specs/Save.antt.
+-- In order: a save carried out, a refusal, save-left.
+-- Elsewhere: what the plan of a sound store writes (plan_save/proofs/Laws/Planned.antt).
+-- Assumes nothing.
+use mathlib.Core.Path.{_≡_, refl, ap}
+use mathlib.Core.List.{List}
+use Prim.Native.Nat.{ℕ, _*_, _≤_}
+use native.Mathlib.Omega.{arith}
+use lib.ListN.{length}
+use lib.Dec.{ltb}
+use borrow.Author.Tests.{ltb-false, le-ltb}
+use Rattle.lists.proofs.Laws.Bools.{split}
+use Rattle.rules.specs.Limits.{partitionsMax, entriesMax, areasMax}
+use Rattle.rules.specs.Checkpoint.{encoded}
+use Rattle.rules.specs.Store.{Store}
+use Rattle.rules.specs.WellFormed.{sound}
+use Rattle.rules.specs.Calls.{within}
+use Rattle.rules.specs.Recovery.{checkpointAt, saveAnswer}
+use Rattle.rules.specs.Step.{Outcome, writeOutcome, savedOver, step, save}
+use Rattle.rules.specs.declared.Answer.the-variants.{Saved, Refused}
+use Rattle.rules.specs.declared.Refusal.{Refusal}
+use Rattle.rules.specs.declared.Refusal.the-variants.{ShortOutput, OutOfRange, Unsound}
+use Rattle.rules.specs.declared.Entry.{Entry}
+use Rattle.rules.specs.declared.State.{State}
+use Rattle.laws.proofs.Laws.Answers.{refused}
+use Rattle.laws.proofs.Laws.Totals.{sound-facts}
+use Rattle.plan_save.specs.Runs.{runsOf}
+use Rattle.plan_save.specs.Save.{refusedSave, sizeOfRuns, savePlan, saveWritten}
+use Rattle.plan_save.specs.declared.Save.{Save}
+use Rattle.plan_save.proofs.Laws.Planned.{refused-writes, plan-size, plan-writes}
+use Rattle.store.specs.Kept.{storeOf, Showed}
+use Rattle.store.proofs.Laws.Kept.{restIn, sound-is}
+
+-- a save of the store st carried out by a plan, with this output lent
+abbrev pub Carried : List ℕ → Store → Outcome → Save → Type 0
+Carried lent st out w = Showed out (w .answer) (saveWritten w (st .rows) lent) st
+
+refused-left : (r : Refusal) (next lent : List ℕ) (st : Store)
+    → Carried lent st (writeOutcome (Refused r) next lent st) (refusedSave r)
+refused-left r next lent st = rw (refused r) (refl, refused-writes r (st .rows) lent, refl)
+
+-- ts are the entries as the plan has them: those lent, where these are of nine areas
+pub save-left : (s : State) → length (s .partitions .at) ≡ partitionsMax → (es ts : List Entry)
+    → (length es ≡ entriesMax * areasMax → ts ≡ es) → (rs lent : List ℕ) (e : ℕ)
+    → Carried lent (storeOf s rs es) (step (save e lent) (storeOf s rs es))
+      (savePlan s (restIn s es rs) ts (length lent) e)
+unfolding step saveAnswer savePlan
+save-left s n es ts same rs lent e = let st = storeOf s rs es in let next = savedOver (checkpointAt e st) lent in
+    rw (sound-is s es rs) (split (sound st)
+  (λ t. let ok = sound-facts st n t .shape in let size = plan-size st ok e in rw (t, same (ok .entries-length))
+    (split (within (s .clock .lse) (s .clock .lce) e)
+    (λ u. split (ltb (length lent) (length (encoded (checkpointAt e st))))
+      (λ f. rw (u, size, f) (refused-left ShortOutput next lent st))
+      (λ f. let k = ltb-false (length lent) (length (encoded (checkpointAt e st))) f in
+        let r = runsOf es (s .partitions) e in let l : sizeOfRuns r ≤ length lent = omega (arith, size) in
+        rw (u, f, le-ltb (length lent) (sizeOfRuns r) l) (ap Saved size, plan-writes st ok e lent l, refl)))
+    (λ u. rw u (refused-left OutOfRange next lent st))))
+  (λ f. rw f (refused-left Unsound next lent st)))
