@@ -109,6 +109,7 @@ pub trait Engine {
                 }
                 Call::MoveLse { .. } => self.move_lse(),
                 Call::Purge { partition } => self.purge(*partition as usize),
+                Call::Save { .. } | Call::Recover { .. } => unreachable!("no workload saves or recovers"),
             }
         }
         sum

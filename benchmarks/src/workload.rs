@@ -49,7 +49,7 @@ impl Day {
     }
 
     fn call(&mut self, call: Call) {
-        let mut bitmap = call.lent_bitmap();
+        let mut bitmap = call.lent_bytes();
         assert_eq!(number_of(&call.run(&mut self.store, &mut bitmap)), 0, "{call:?}");
         self.calls.push(call);
     }

@@ -7,9 +7,11 @@ pub mod prepared;
 use model::call::{Answer, Call};
 use model::check::own_clearing;
 use model::clock::Clock;
+use model::expect::{read_file, End};
 use model::partition::{Entry, Partition, Partitions};
 use model::random::Rng;
 use model::refusal::Refusal;
+use model::round::CONTENTS;
 use model::store::{Manager, Store};
 use model::stores::{changed_store, spoilt_store, CHANGES, LOW_BITS, SPOILS};
 use model::txn::{RoTable, RoTxn, RwTable, RwTxn};
@@ -78,9 +80,9 @@ impl Areas {
         Areas { rows: store.rows.clone(), entries: store.entries.iter().map(entry).collect() }
     }
 
-    /// Lends them, with a bitmap.
-    pub fn lend<'a>(&'a mut self, bitmap: &'a mut [u8]) -> Lent<'a> {
-        Lent { rows: &mut self.rows, entries: &mut self.entries, bitmap }
+    /// Lends them, with the bytes of a bitmap or an output.
+    pub fn lend<'a>(&'a mut self, bytes: &'a mut [u8]) -> Lent<'a> {
+        Lent { rows: &mut self.rows, entries: &mut self.entries, bytes }
     }
 
     /// Makes a store of the model's out of them and of the books.
@@ -96,21 +98,32 @@ impl Areas {
 pub struct Lent<'a> {
     pub rows: &'a mut [u64],
     pub entries: &'a mut [books::Entry],
-    pub bitmap: &'a mut [u8],
+    pub bytes: &'a mut [u8],
 }
 
 /// Runs a scan on the proved store, which leaves the books.
 pub fn scan(reader: Reader, partition: u64, books: &Books, lent: Lent) -> Seen {
-    let Lent { rows, entries, bitmap } = lent;
+    let Lent { rows, entries, bytes } = lent;
     match reader {
-        Reader::Rw(txn) => calls::scan_rw(books, entries, rows, bitmap, txn, partition),
-        Reader::Ro(ticket) => calls::scan_ro(books, entries, rows, bitmap, ticket, partition),
+        Reader::Rw(txn) => calls::scan_rw(books, entries, rows, bytes, txn, partition),
+        Reader::Ro(ticket) => calls::scan_ro(books, entries, rows, bytes, ticket, partition),
     }
+}
+
+/// Runs a save on the proved store, which leaves the books.
+pub fn save(epoch: u64, books: &Books, lent: Lent) -> Seen {
+    calls::save(books, lent.entries, lent.rows, lent.bytes, epoch)
+}
+
+/// What was seen, as a reply with the books as they were.
+fn unchanged(seen: Seen, books: &Books) -> Reply {
+    let Seen { number, value, second } = seen;
+    Reply { books: *books, number, value, second, from: 0, count: 0 }
 }
 
 /// Runs the call on the proved store: what is lent is changed in place, the books are in the reply.
 pub fn call(call: &Call, books: &Books, lent: Lent) -> Reply {
-    let Lent { rows, entries, bitmap } = lent;
+    let Lent { rows, entries, bytes } = lent;
     match call {
         Call::New { start } => calls::create(books, entries, rows, *start),
         Call::Begin => calls::begin(books, entries, rows),
@@ -122,27 +135,29 @@ pub fn call(call: &Call, books: &Books, lent: Lent) -> Reply {
         Call::Rollback { epoch } => calls::roll_back(books, entries, rows, *epoch),
         Call::Open { epoch } => calls::begin_ro(books, entries, rows, *epoch),
         Call::Close { ticket } => calls::end_ro(books, entries, rows, *ticket),
-        Call::Scan { reader, partition, .. } => {
-            let Seen { number, value, second } = scan(*reader, *partition, books, Lent { rows, entries, bitmap });
-            Reply { books: *books, number, value, second, from: 0, count: 0 }
-        }
         Call::MoveLse { target } => calls::advance_lse(books, entries, rows, *target),
         Call::Purge { partition } => calls::purge(books, entries, rows, *partition),
+        Call::Scan { reader, partition, .. } => {
+            unchanged(scan(*reader, *partition, books, Lent { rows, entries, bytes }), books)
+        }
+        Call::Save { epoch, .. } => unchanged(save(*epoch, books, Lent { rows, entries, bytes }), books),
+        Call::Recover { file } => calls::recover(books, entries, rows, file),
     }
 }
 
-/// Runs the call as one that measures it does: of the reply only the number is kept, and a scan makes no reply.
+/// Runs the call as one that measures it does: of the reply only the number is kept, and a scan and a save make none.
 pub fn measured(one: &Call, books: &Books, lent: Lent) -> u64 {
     match one {
         Call::Scan { reader, partition, .. } => black_box(scan(*reader, *partition, books, lent)).number,
+        Call::Save { epoch, .. } => black_box(save(*epoch, books, lent)).number,
         _ => black_box(&call(one, books, lent)).number,
     }
 }
 
 /// Runs the call on a store of the model's by the proved library, and leaves it as that does.
-pub fn by_library(one: &Call, store: &mut Store, bitmap: &mut [u8]) -> Reply {
+pub fn by_library(one: &Call, store: &mut Store, bytes: &mut [u8]) -> Reply {
     let mut areas = Areas::of(store);
-    let reply = call(one, &books_of(&store.manager), areas.lend(bitmap));
+    let reply = call(one, &books_of(&store.manager), areas.lend(bytes));
     areas.put_back(&reply.books, store);
     reply
 }
@@ -214,6 +229,44 @@ impl fmt::Display for Totals {
     fn fmt(&self, f: &mut fmt::Formatter) -> fmt::Result {
         let Totals { spoilt, low_bits, changed, moved } = self;
         write!(f, "totals: {moved} moved, {spoilt} spoilt, {low_bits} by low bits, {changed:?} rows that do not count")
+    }
+}
+
+/// How many saves wrote rows; how many recoveries brought rows, how many of them from a file with more than one whole
+/// round, and how many from one that was cut.
+#[derive(Default)]
+pub struct Rounds {
+    pub saved: u64,
+    pub recovered: u64,
+    pub many: u64,
+    pub cut: u64,
+}
+
+impl Rounds {
+    /// Notes a call that was accepted, by its value and the model's books after it.
+    pub fn note(&mut self, one: &Call, value: u64, after: &Manager) {
+        match one {
+            Call::Save { .. } => self.saved += u64::from(value > CONTENTS as u64),
+            Call::Recover { file } if after.partitions.at.iter().any(|lot| lot.rows > 0) => {
+                let read = read_file(file);
+                self.recovered += 1;
+                self.many += u64::from(read.whole.len() > 1);
+                self.cut += u64::from(read.end != End::Nothing);
+            }
+            _ => {}
+        }
+    }
+
+    /// Whether something of it was not met.
+    pub fn is_weak(&self) -> bool {
+        [self.saved, self.recovered, self.many, self.cut].contains(&0)
+    }
+}
+
+impl fmt::Display for Rounds {
+    fn fmt(&self, f: &mut fmt::Formatter) -> fmt::Result {
+        let Rounds { saved, recovered, many, cut } = self;
+        write!(f, "rounds: {saved} saves with rows, {recovered} recovered, {many} of many rounds, {cut} of a cut file")
     }
 }
 

@@ -1,7 +1,7 @@
 // The functions of the static library by their names behind `nizgulk_`, for build.rs and for the measuring programs.
 
 /// In the order of `kind`.
-pub const NAMES: [&str; 12] = [
+pub const NAMES: [&str; 14] = [
     "create",
     "begin",
     "append",
@@ -14,4 +14,6 @@ pub const NAMES: [&str; 12] = [
     "scan_ro",
     "advance_lse",
     "purge",
+    "save",
+    "recover",
 ];

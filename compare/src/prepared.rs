@@ -2,14 +2,17 @@
 
 use crate::numbers;
 use model::call::Call;
+use model::files::{bytes_of, random_rounds};
 use model::partition::{Entry, Partition, CLEARING, ROWS};
 use model::random::Rng;
+use model::round::{Round, CONTENTS, ROW};
 use model::sound::well_formed;
 use model::store::Store;
 use model::txn::WAITING;
 use model::visible::Reader;
 use model::{AREAS, AREA_ENTRIES, AREA_ROWS, DEPS, PARTITIONS, TXNS};
 use std::collections::BTreeSet;
+use std::hint::black_box;
 
 /// An open load and an open page, of the empty store and of the laden ones.
 pub const LOAD: u64 = 5;
@@ -35,6 +38,8 @@ pub fn kind(one: &Call) -> usize {
         Call::Scan { reader: Reader::Ro(_), .. } => 9,
         Call::MoveLse { .. } => 10,
         Call::Purge { .. } => 11,
+        Call::Save { .. } => 12,
+        Call::Recover { .. } => 13,
     }
 }
 
@@ -52,8 +57,19 @@ pub fn append(count: u64) -> Call {
     Call::Append { epoch: LOAD, partition: 0, rows: (0..count).collect() }
 }
 
-/// One call of each kind, in the order of `kind`, that the empty store and the laden ones accept.
-pub fn each_call() -> [Call; KINDS] {
+/// A save at an epoch with an output that is always long enough.
+pub fn save(epoch: u64) -> Call {
+    Call::Save { epoch, lent: CONTENTS + PARTITIONS * AREA_ROWS * ROW }
+}
+
+/// A recovery of what a save of the store at an epoch writes.
+pub fn recover(store: &Store, epoch: u64) -> Call {
+    Call::Recover { file: store.round_at(epoch).bytes() }
+}
+
+/// One call of each kind, in the order of `kind`, that the empty store and the laden ones accept. The recovery is of what
+/// the save writes.
+pub fn each_call(store: &Store) -> [Call; KINDS] {
     [
         Call::New { start: 1 },
         Call::Begin,
@@ -67,6 +83,8 @@ pub fn each_call() -> [Call; KINDS] {
         scan(Reader::Ro(PAGE)),
         Call::MoveLse { target: 0 },
         Call::Purge { partition: 0 },
+        save(LOAD - 1),
+        recover(store, LOAD - 1),
     ]
 }
 
@@ -115,6 +133,23 @@ pub fn laden(count: u64, rows: usize) -> Store {
     }
     assert!(well_formed(&store));
     store
+}
+
+/// The laden store with its load of LOAD landed and lot 0 filled by it: at LCE, which is LOAD, eight lots of 512 rows are
+/// shown.
+pub fn landed(count: u64, rows: usize) -> Store {
+    let mut store = laden(count, rows);
+    let left = AREA_ROWS as u64 - store.manager.partitions.at[0].rows;
+    run(&mut store, append(left));
+    run(&mut store, Call::Commit { epoch: LOAD });
+    assert_eq!(store.round_at(LOAD).length(), CONTENTS + PARTITIONS * AREA_ROWS * ROW);
+    store
+}
+
+/// Copies bytes plainly.
+#[inline(never)]
+pub fn copy_plainly(from: &[u8], to: &mut [u8]) {
+    black_box(to).copy_from_slice(black_box(from));
 }
 
 /// The store with one more load begun.
@@ -213,7 +248,8 @@ pub fn dense(rng: &mut Rng, heaviest: bool) -> Store {
     store
 }
 
-/// A call of each kind for the store as it stands: of open loads and pages where there are any, on any lot.
+/// A call of each kind for the store as it stands: of open loads and pages where there are any, on any lot. The last
+/// recovery is of one round with full lots: of more rounds only the tables of contents would be read.
 pub fn any_calls(store: &Store, rng: &mut Rng) -> Vec<Call> {
     let manager = &store.manager;
     let loads: Vec<u64> = manager.rw.open().map(|load| load.epoch).collect();
@@ -234,6 +270,8 @@ pub fn any_calls(store: &Store, rng: &mut Rng) -> Vec<Call> {
     let (p, q, r, s, t) = (lot(), lot(), lot(), lot(), lot());
     let room = (AREA_ROWS as u64).saturating_sub(manager.partitions.at[p as usize].rows);
     let lent = AREA_ROWS / 8;
+    let rounds = random_rounds(rng, AREA_ROWS as u64);
+    let full = Round { epoch: LOAD, lots: std::array::from_fn(|_| (0..AREA_ROWS as u64).collect()) };
     vec![
         Call::New { start: manager.clock.ec },
         Call::Begin,
@@ -253,5 +291,9 @@ pub fn any_calls(store: &Store, rng: &mut Rng) -> Vec<Call> {
         Call::MoveLse { target: manager.clock.lce },
         Call::Purge { partition: t },
         Call::Purge { partition: oldest },
+        save(manager.clock.lse),
+        save(manager.clock.lce),
+        Call::Recover { file: bytes_of(&rounds) },
+        Call::Recover { file: full.bytes() },
     ]
 }

@@ -1,4 +1,4 @@
-//! Calls and answers as values, so that histories can be kept, made at random and run (01, "A session").
+//! Calls and answers as values, so that histories can be kept, made at random and run (01, "A session"; 02, (v)).
 
 use crate::refusal::Refusal;
 use crate::store::{Closed, Purged, Scanned, Store};
@@ -43,6 +43,14 @@ pub enum Call {
         partition: u64,
         lent: usize,
     },
+    /// `lent` is the length of the output in bytes.
+    Save {
+        epoch: u64,
+        lent: usize,
+    },
+    Recover {
+        file: Vec<u8>,
+    },
 }
 
 /// What a call answers beside its number.
@@ -56,11 +64,13 @@ pub enum Answer {
 }
 
 /// The names of the calls, in the order of `Call`.
-pub const CALL_NAMES: [&str; 11] =
-    ["new", "begin", "append", "clear", "commit", "rollback", "open", "close", "move lse", "purge", "scan"];
+pub const CALL_NAMES: [&str; 13] = [
+    "new", "begin", "append", "clear", "commit", "rollback", "open", "close", "move lse", "purge", "scan",
+    "save", "recover",
+];
 
-/// The words that the checks put into a bitmap before it is lent.
-pub const BITMAP_FILL: u8 = 0xa5;
+/// The byte that the checks put into all that a call is lent to write bytes into.
+pub const LENT_FILL: u8 = 0xa5;
 
 impl Call {
     /// The place of the call in `CALL_NAMES`.
@@ -77,11 +87,13 @@ impl Call {
             Call::MoveLse { .. } => 8,
             Call::Purge { .. } => 9,
             Call::Scan { .. } => 10,
+            Call::Save { .. } => 11,
+            Call::Recover { .. } => 12,
         }
     }
 
-    /// Runs the call. `bitmap` is what a scan is lent.
-    pub fn run(&self, store: &mut Store, bitmap: &mut [u8]) -> Result<Answer, Refusal> {
+    /// Runs the call. `lent` is what a scan writes its bits into, and a save its round.
+    pub fn run(&self, store: &mut Store, lent: &mut [u8]) -> Result<Answer, Refusal> {
         match self {
             Call::New { start } => store.make_new(*start).map(|()| Answer::Nothing),
             Call::Begin => store.begin().map(Answer::Value),
@@ -96,15 +108,17 @@ impl Call {
             Call::MoveLse { target } => store.move_lse(*target).map(Answer::Value),
             Call::Purge { partition } => store.purge(*partition).map(Answer::Purged),
             Call::Scan { reader, partition, .. } => {
-                store.scan(*reader, *partition, bitmap).map(Answer::Scanned)
+                store.scan(*reader, *partition, lent).map(Answer::Scanned)
             }
+            Call::Save { epoch, .. } => store.save(*epoch, lent).map(Answer::Value),
+            Call::Recover { file } => store.recover(file).map(|()| Answer::Nothing),
         }
     }
 
-    /// The bitmap that the call is lent, filled for the checks.
-    pub fn lent_bitmap(&self) -> Vec<u8> {
+    /// The bytes that the call is lent, filled for the checks.
+    pub fn lent_bytes(&self) -> Vec<u8> {
         match self {
-            Call::Scan { lent, .. } => vec![BITMAP_FILL; *lent],
+            Call::Scan { lent, .. } | Call::Save { lent, .. } => vec![LENT_FILL; *lent],
             _ => Vec::new(),
         }
     }

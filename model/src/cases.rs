@@ -1,8 +1,10 @@
-//! The fixed cases as functions, told in words where they fail (01, "A session" and on; 02, (i) to (iii)).
+//! The fixed cases as functions, told in words where they fail (01, "A session" and on; 02, (i) to (iii), (v)).
 
 use crate::call::{Answer, Call};
 use crate::check::{Checked, Checks, Outcome};
+use crate::ledger::Ledger;
 use crate::partition::{entries_of, Entry, CLEARING, ROWS};
+use crate::round_cases as rounds;
 use crate::session::{parse, print, Session};
 use crate::store::Store;
 use crate::visible::Reader;
@@ -12,7 +14,7 @@ pub type Told = Result<(), String>;
 pub type Case = (&'static str, fn() -> Told);
 
 /// All fixed cases by name.
-pub const CASES: [Case; 35] = [
+pub const CASES: [Case; 46] = [
     ("worked session", worked_session),
     ("cases 1 to 4", cases_1_to_4),
     ("cases 5 to 8", cases_5_to_8),
@@ -48,6 +50,17 @@ pub const CASES: [Case; 35] = [
     ("total: clearings", total_clearings),
     ("total: purge", total_purge),
     ("total: spoilt", total_spoilt),
+    ("saved: every byte", rounds::saved_bytes),
+    ("saved: in range", rounds::saved_in_range),
+    ("saved: beside loads", rounds::saved_beside_loads),
+    ("saved: full", rounds::saved_full),
+    ("recovered: every word", rounds::recovered_words),
+    ("recovered: every cut", rounds::recovered_cuts),
+    ("recovered: corrupt", rounds::recovered_corrupt),
+    ("recovered: at the edges", rounds::recovered_at_the_edges),
+    ("recovered: a new history", rounds::recovered_history),
+    ("recovered: lengths", rounds::recovered_lengths),
+    ("saved and recovered", rounds::saved_and_recovered),
 ];
 
 /// Runs session lines, parted by `;`, with every check, and compares the answers.
@@ -57,7 +70,7 @@ fn lines(input: &str, output: &str) -> Told {
 
 fn lines_from(store: Store, start: u64, input: &str, output: &str) -> Result<Store, String> {
     let mut session = Session { store: store.clone() };
-    let mut checked = Checked::new(store, start, Checks::ALL);
+    let mut checked = Checked::new(store, Ledger::new(start), Checks::ALL);
     let inputs: Vec<&str> = input.split(';').map(str::trim).collect();
     let outputs: Vec<&str> = output.split(';').map(str::trim).collect();
     if inputs.len() != outputs.len() {
@@ -70,7 +83,7 @@ fn lines_from(store: Store, start: u64, input: &str, output: &str) -> Result<Sto
         }
         if let Some(call) = parse(line.as_bytes()) {
             let outcome = checked.call(&call)?;
-            let found = print(&call, &outcome.answer, &checked.store, &outcome.bitmap);
+            let found = print(&call, &outcome.answer, &checked.store, &outcome.lent);
             if found != expected {
                 return Err(format!("{line} as a call answers {found}, not {expected}"));
             }
@@ -79,7 +92,7 @@ fn lines_from(store: Store, start: u64, input: &str, output: &str) -> Result<Sto
     Ok(checked.store)
 }
 
-fn same<T: PartialEq + std::fmt::Debug>(what: &str, found: T, expected: T) -> Told {
+pub fn same<T: PartialEq + std::fmt::Debug>(what: &str, found: T, expected: T) -> Told {
     if found == expected {
         Ok(())
     } else {
@@ -99,7 +112,7 @@ fn worked_session() -> Told {
 /// A store with loads 1 to 8 begun, lot 0 filled by `work`, a list of (load, rows), 0 rows being a clearing,
 /// and all loads committed. Pages can then be opened at any epoch from 0 to 8.
 fn table_store(work: &[(u64, u64)]) -> Result<Checked, String> {
-    let mut checked = Checked::new(Store::new(1), 1, Checks::ALL);
+    let mut checked = Checked::new(Store::new(1), Ledger::new(1), Checks::ALL);
     for _ in 1..=8 {
         checked.call(&Call::Begin)?;
     }
@@ -127,10 +140,10 @@ fn page_bits(checked: &mut Checked) -> Result<Vec<String>, String> {
             return Err(format!("no page at {epoch}"));
         };
         let scan = Call::Scan { reader: Reader::Ro(ticket), partition: 0, lent: 64 };
-        let Outcome { answer: Ok(Answer::Scanned(scanned)), bitmap } = checked.call(&scan)? else {
+        let Outcome { answer: Ok(Answer::Scanned(scanned)), lent } = checked.call(&scan)? else {
             return Err(format!("no scan at {epoch}"));
         };
-        let bit = |row: u64| if bitmap[row as usize / 8] >> (row % 8) & 1 == 1 { '1' } else { '0' };
+        let bit = |row: u64| if lent[row as usize / 8] >> (row % 8) & 1 == 1 { '1' } else { '0' };
         found.push((0..scanned.rows).map(bit).collect());
     }
     Ok(found)
@@ -225,7 +238,7 @@ fn edge_pages() -> Told {
 }
 
 fn edge_bitmap() -> Told {
-    let mut checked = Checked::new(Store::new(1), 1, Checks::ALL);
+    let mut checked = Checked::new(Store::new(1), Ledger::new(1), Checks::ALL);
     checked.call(&Call::Begin)?;
     for (count, lent, accepted) in
         [(0, 0, true), (8, 1, true), (0, 0, false), (1, 1, false), (0, 2, true), (0, 9, true)]
@@ -233,7 +246,7 @@ fn edge_bitmap() -> Told {
         let rows = vec![7; count];
         checked.call(&Call::Append { epoch: 1, partition: 0, rows })?;
         let scan = Call::Scan { reader: Reader::Rw(1), partition: 0, lent };
-        let Outcome { answer, bitmap } = checked.call(&scan)?;
+        let Outcome { answer, lent: bitmap } = checked.call(&scan)?;
         same(&format!("{scan:?}"), answer.is_ok(), accepted)?;
         if lent == 9 {
             same("bits", bitmap, vec![0xff, 1, 0xa5, 0xa5, 0xa5, 0xa5, 0xa5, 0xa5, 0xa5])?;
@@ -379,7 +392,7 @@ fn own_clearing_earlier_row() -> Told {
     store.entries[..3].copy_from_slice(&[entry(2, 0, CLEARING), entry(1, 1, ROWS), entry(2, 2, ROWS)]);
     let scan = Call::Scan { reader: Reader::Rw(2), partition: 0, lent: 1 };
     let outcome = Checked::without_ledger(store).call(&scan)?;
-    same("bits", outcome.bitmap, vec![0b10])
+    same("bits", outcome.lent, vec![0b10])
 }
 
 fn rollback_moves_lce() -> Told {
@@ -482,11 +495,11 @@ fn gap() -> Told {
 
 /// Runs session lines with every check: each with its answer and lot 0's total after it.
 fn totals(lines: &[(&str, &str, u64)]) -> Result<Checked, String> {
-    let mut checked = Checked::new(Store::new(1), 1, Checks::ALL);
+    let mut checked = Checked::new(Store::new(1), Ledger::new(1), Checks::ALL);
     for &(line, expected, total) in lines {
         let call = parse(line.as_bytes()).ok_or("no call")?;
         let outcome = checked.call(&call)?;
-        same(line, print(&call, &outcome.answer, &checked.store, &outcome.bitmap).as_str(), expected)?;
+        same(line, print(&call, &outcome.answer, &checked.store, &outcome.lent).as_str(), expected)?;
         same(&format!("total after {line}"), checked.store.manager.totals[0], total)?;
     }
     Ok(checked)

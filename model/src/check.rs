@@ -1,11 +1,12 @@
 //! Histories run with every check after every call, and what they covered (01, "The ledger of demand 3"; 02).
 
-use crate::call::{number_of, Answer, Call, BITMAP_FILL, CALL_NAMES};
-use crate::expect::{due, purged_items, step, Item};
+use crate::call::{number_of, Answer, Call, CALL_NAMES, LENT_FILL};
+use crate::expect::{due, purged_items, read_file, step, End, FileRead, Item};
 use crate::histories::{Calls, Lines, Profile};
 use crate::ledger::Ledger;
 use crate::partition::{entries_of, rows_of, Entry, CLEARING, ROWS};
 use crate::refusal::Refusal;
+use crate::round::{CONTENTS, ROW};
 use crate::session::{parse, print, Session};
 use crate::sound::{broken_clauses, well_formed};
 use crate::store::{Closed, Store};
@@ -65,10 +66,43 @@ pub enum Edge {
     LseStays,
     LseAsFarAsHeld,
     LseToLce,
+    SaveAtZero,
+    SaveZeroRefused,
+    SaveBelowLce,
+    SaveOfNothing,
+    SaveExact,
+    SaveOneShort,
+    SaveLonger,
+    SaveBesideOpenLoad,
+    SaveLeavesHidden,
+    SaveLeavesLater,
+    Save512Rows,
+    RecoverNothing,
+    RecoverWholeFile,
+    RecoverCutContents,
+    RecoverCutBody,
+    RecoverManyRounds,
+    RecoverSameEpoch,
+    RecoverAtZero,
+    RecoverLastEpoch,
+    Recover512Rows,
+    RecoverEmptyLot,
+    RecoverOverOpen,
+    CorruptCount,
+    CorruptAbove,
+    CorruptFalls,
+    CorruptZero,
+    CorruptFirst,
+    CorruptLater,
+    CorruptCutBody,
+    AppendAfterRecovery,
+    ClearAfterRecovery,
+    PurgeAfterRecovery,
+    SaveAfterRecovery,
 }
 
 impl Edge {
-    pub const ALL: [Edge; 49] = [
+    pub const ALL: [Edge; 82] = [
         Edge::PurgeSkipped,
         Edge::PurgeRewritten,
         Edge::PurgeJoined,
@@ -118,30 +152,69 @@ impl Edge {
         Edge::LseStays,
         Edge::LseAsFarAsHeld,
         Edge::LseToLce,
+        Edge::SaveAtZero,
+        Edge::SaveZeroRefused,
+        Edge::SaveBelowLce,
+        Edge::SaveOfNothing,
+        Edge::SaveExact,
+        Edge::SaveOneShort,
+        Edge::SaveLonger,
+        Edge::SaveBesideOpenLoad,
+        Edge::SaveLeavesHidden,
+        Edge::SaveLeavesLater,
+        Edge::Save512Rows,
+        Edge::RecoverNothing,
+        Edge::RecoverWholeFile,
+        Edge::RecoverCutContents,
+        Edge::RecoverCutBody,
+        Edge::RecoverManyRounds,
+        Edge::RecoverSameEpoch,
+        Edge::RecoverAtZero,
+        Edge::RecoverLastEpoch,
+        Edge::Recover512Rows,
+        Edge::RecoverEmptyLot,
+        Edge::RecoverOverOpen,
+        Edge::CorruptCount,
+        Edge::CorruptAbove,
+        Edge::CorruptFalls,
+        Edge::CorruptZero,
+        Edge::CorruptFirst,
+        Edge::CorruptLater,
+        Edge::CorruptCutBody,
+        Edge::AppendAfterRecovery,
+        Edge::ClearAfterRecovery,
+        Edge::PurgeAfterRecovery,
+        Edge::SaveAfterRecovery,
     ];
 }
+
+/// The numbers that a call may answer: 0 is accepted.
+pub const NUMBERS: usize = 12;
 
 /// Counts of what was met.
 #[derive(Clone, Debug)]
 pub struct Coverage {
     pub calls: u64,
     /// By call and number.
-    pub numbers: [[u64; 11]; CALL_NAMES.len()],
+    pub numbers: [[u64; NUMBERS]; CALL_NAMES.len()],
     /// By call: two refusals due at once, the first answered.
     pub pairs: BTreeSet<(usize, u64, u64)>,
     pub edges: [u64; Edge::ALL.len()],
     /// Scans compared with the ledger.
     pub shown: u64,
+    /// Saves compared with the ledger.
+    pub saved: u64,
 }
 
 impl Default for Coverage {
     fn default() -> Coverage {
         Coverage {
             calls: 0,
-            numbers: [[0; 11]; CALL_NAMES.len()],
+            numbers: [[0; NUMBERS]; CALL_NAMES.len()],
             pairs: BTreeSet::new(),
             edges: [0; Edge::ALL.len()],
             shown: 0,
+            saved: 0,
         }
     }
 }
@@ -159,10 +232,12 @@ pub const POSSIBLE: [&[u64]; CALL_NAMES.len()] = [
     &[5, 4, 10],
     &[5, 1],
     &[5, 1, 2, 3],
+    &[5, 4, 3],
+    &[5, 11],
 ];
 
 /// The pairs of refusals that can be due at once, 5 left out. With a lot above 7 there is no room to judge.
-pub const POSSIBLE_PAIRS: [(usize, u64, u64); 14] = [
+pub const POSSIBLE_PAIRS: [(usize, u64, u64); 16] = [
     (1, 6, 7),
     (2, 1, 2),
     (2, 2, 8),
@@ -176,13 +251,16 @@ pub const POSSIBLE_PAIRS: [(usize, u64, u64); 14] = [
     (8, 4, 10),
     (10, 1, 2),
     (10, 2, 3),
+    (11, 4, 3),
     (0, 5, 4),
+    (12, 5, 11),
 ];
 
 impl Coverage {
     pub fn add(&mut self, other: &Coverage) {
         self.calls += other.calls;
         self.shown += other.shown;
+        self.saved += other.saved;
         for (kind, numbers) in other.numbers.iter().enumerate() {
             for (number, count) in numbers.iter().enumerate() {
                 self.numbers[kind][number] += count;
@@ -202,6 +280,69 @@ impl Coverage {
         self.edges[edge as usize] += u64::from(met);
     }
 
+    /// A save of the store, lent so many bytes, that answered the number.
+    fn meet_save(&mut self, store: &Store, epoch: u64, lent: usize, number: u64, recovered: bool) {
+        let clock = &store.manager.clock;
+        let (mut needed, mut full, mut hidden, mut later, mut open) = (CONTENTS, false, false, false, false);
+        for part in &store.manager.partitions.at {
+            let entries = entries_of(part, &store.entries);
+            let (mut start, mut rows) = (0, 0);
+            for (at, entry) in entries.iter().enumerate() {
+                let is_shown = shown(&View::Ro(epoch), entries, at);
+                rows += if is_shown { (entry.end - start) as usize } else { 0 };
+                hidden |= entry.mark == ROWS && entry.epoch <= epoch && !is_shown;
+                later |= epoch < entry.epoch && entry.epoch <= clock.lce;
+                open |= entry.epoch > clock.lce;
+                start = entry.end;
+            }
+            needed += ROW * rows;
+            full |= rows == AREA_ROWS;
+        }
+        let (accepted, has_rows) = (number == 0, needed > CONTENTS);
+        self.meet(Edge::SaveZeroRefused, number == 4 && epoch == 0);
+        self.meet(Edge::SaveOneShort, number == 3 && lent + 1 == needed);
+        self.meet(Edge::SaveAtZero, accepted && epoch == 0 && clock.lce > 0);
+        self.meet(Edge::SaveBelowLce, accepted && clock.lse < epoch && epoch < clock.lce);
+        self.meet(Edge::SaveOfNothing, accepted && !has_rows);
+        self.meet(Edge::SaveExact, accepted && has_rows && lent == needed);
+        self.meet(Edge::SaveLonger, accepted && lent > needed);
+        self.meet(Edge::SaveBesideOpenLoad, accepted && open);
+        self.meet(Edge::SaveLeavesHidden, accepted && hidden);
+        self.meet(Edge::SaveLeavesLater, accepted && has_rows && later);
+        self.meet(Edge::Save512Rows, accepted && full);
+        self.meet(Edge::SaveAfterRecovery, accepted && has_rows && recovered);
+    }
+
+    /// A recovery of a file over the store, whose lengths are right.
+    fn meet_recovery(&mut self, store: &Store, file: &[u8]) {
+        let FileRead { whole, end } = read_file(file);
+        if let End::Corrupt(flaws) = end {
+            self.meet(Edge::CorruptCount, flaws.count);
+            self.meet(Edge::CorruptAbove, flaws.above);
+            self.meet(Edge::CorruptFalls, flaws.falls);
+            self.meet(Edge::CorruptZero, flaws.zero);
+            self.meet(Edge::CorruptFirst, whole.is_empty());
+            self.meet(Edge::CorruptLater, !whole.is_empty());
+            self.meet(Edge::CorruptCutBody, !flaws.whole);
+            return;
+        }
+        self.meet(Edge::RecoverOverOpen, store.manager.rw.count > 0 && store.manager.ro.count > 0);
+        self.meet(Edge::RecoverManyRounds, whole.len() > 1);
+        self.meet(Edge::RecoverSameEpoch, whole.windows(2).any(|pair| pair[0].0 == pair[1].0));
+        let Some((epoch, lots)) = whole.last() else {
+            self.meet(Edge::RecoverNothing, !file.is_empty());
+            return;
+        };
+        self.meet(Edge::RecoverWholeFile, end == End::Nothing);
+        self.meet(Edge::RecoverCutContents, end == End::CutContents);
+        self.meet(Edge::RecoverCutBody, end == End::CutBody);
+        self.meet(Edge::RecoverAtZero, *epoch == 0);
+        self.meet(Edge::RecoverLastEpoch, *epoch == LAST_EPOCH);
+        self.meet(Edge::Recover512Rows, lots.iter().any(|lot| lot.len() == AREA_ROWS));
+        let has_rows = lots.iter().any(|lot| !lot.is_empty());
+        self.meet(Edge::RecoverEmptyLot, has_rows && lots.iter().any(Vec::is_empty));
+    }
+
     /// What was never met, in words; `but` are numbers to leave out.
     pub fn missing(&self, but: &[u64]) -> Vec<String> {
         let mut missing = Vec::new();
@@ -211,7 +352,7 @@ impl Coverage {
                     missing.push(format!("{} answering {number}", CALL_NAMES[kind]));
                 }
             }
-            for number in 1..=10 {
+            for number in 1..NUMBERS as u64 {
                 if !possible.contains(&number) && self.numbers[kind][number as usize] > 0 {
                     missing.push(format!("{} must not answer {number}", CALL_NAMES[kind]));
                 }
@@ -244,11 +385,11 @@ impl Checks {
     pub const ALL: Checks = Checks { expect: true, ledger: true };
 }
 
-/// What a checked call answered, and the bitmap that a scan was lent.
+/// What a checked call answered, and the bytes that it was lent.
 #[derive(Clone, Debug, PartialEq, Eq)]
 pub struct Outcome {
     pub answer: Result<Answer, Refusal>,
-    pub bitmap: Vec<u8>,
+    pub lent: Vec<u8>,
 }
 
 /// A store, its ledger and the state before the last call.
@@ -258,20 +399,23 @@ pub struct Checked {
     ledger: Ledger,
     before: Store,
     checks: Checks,
+    /// Whether the last new history was opened by a recovery that brought rows.
+    recovered: bool,
     bits: Vec<u8>,
     shown: Vec<u64>,
     found: Vec<u64>,
 }
 
 impl Checked {
-    /// Starts from a store that an accepted making new at `start` left.
-    pub fn new(store: Store, start: u64, checks: Checks) -> Checked {
+    /// Starts from a store that an accepted making new or recovery left, and from its ledger.
+    pub fn new(store: Store, ledger: Ledger, checks: Checks) -> Checked {
         Checked {
             before: store.clone(),
             store,
             coverage: Coverage::default(),
-            ledger: Ledger::new(start),
+            ledger,
             checks,
+            recovered: false,
             bits: Vec::new(),
             shown: Vec::new(),
             found: Vec::new(),
@@ -280,37 +424,37 @@ impl Checked {
 
     /// Starts from any store; the ledger knows nothing of it, so only the other checks are made.
     pub fn without_ledger(store: Store) -> Checked {
-        Checked::new(store, 1, Checks { expect: true, ledger: false })
+        Checked::new(store, Ledger::new(1), Checks { expect: true, ledger: false })
     }
 
     /// Runs one call with all checks. What fails is told in words.
     pub fn call(&mut self, call: &Call) -> Result<Outcome, String> {
         let told = |what: String| Err(format!("{call:?}: {what}"));
         self.before.clone_from(&self.store);
-        let mut bitmap = call.lent_bitmap();
-        let answer = call.run(&mut self.store, &mut bitmap);
+        let mut lent = call.lent_bytes();
+        let answer = call.run(&mut self.store, &mut lent);
         let number = number_of(&answer);
         let changed = self.store != self.before;
         self.cover(call, &answer);
 
-        if number != 0 && (changed || bitmap.iter().any(|&byte| byte != BITMAP_FILL)) {
+        if number != 0 && (changed || lent.iter().any(|&byte| byte != LENT_FILL)) {
             return told(format!("refused by {number}, but something was written"));
         }
         let due = due(&self.before, call);
         if number != due.first().copied().unwrap_or(0) {
             return told(format!("answered {number} where {due:?} were due"));
         }
-        if number != 5 && !well_formed(&self.store) {
+        if number == 0 && !well_formed(&self.store) {
             return told(format!("left a store with broken clauses {:?}", broken_clauses(&self.store)));
         }
         if self.checks.expect {
-            let mut expected_bits = call.lent_bitmap();
-            let (expected, values) = step(&mut self.before, call, &mut expected_bits);
+            let mut expected_lent = call.lent_bytes();
+            let (expected, values) = step(&mut self.before, call, &mut expected_lent);
             if expected != number || answer.as_ref().is_ok_and(|answer| *answer != values) {
                 return told(format!("answered {answer:?}, expected {expected} {values:?}"));
             }
-            if expected_bits != bitmap {
-                return told(format!("wrote bits {bitmap:?}, expected {expected_bits:?}"));
+            if expected_lent != lent {
+                return told(format!("wrote {lent:?}, expected {expected_lent:?}"));
             }
             if self.store != self.before {
                 return told(format!("left {}", difference(&self.store, &self.before)));
@@ -321,6 +465,7 @@ impl Checked {
             // A refusal left the store and the ledger as they were: the last comparison still stands.
             if number == 0 {
                 self.compare_oldest(call, &answer).map_err(|what| format!("{call:?}: {what}"))?;
+                self.compare_saved(call, &answer, &lent).map_err(|what| format!("{call:?}: {what}"))?;
                 if self.store.manager.totals != self.ledger.totals() {
                     let (totals, ought) = (self.store.manager.totals, self.ledger.totals());
                     return told(format!("totals {totals:?}, the ledger {ought:?}"));
@@ -328,7 +473,7 @@ impl Checked {
                 self.compare_with_ledger().map_err(|what| format!("{call:?}: {what}"))?;
             }
         }
-        Ok(Outcome { answer, bitmap })
+        Ok(Outcome { answer, lent })
     }
 
     fn feed(&mut self, call: &Call, number: u64, answer: &Result<Answer, Refusal>) {
@@ -345,7 +490,8 @@ impl Checked {
             Call::Rollback { epoch } => self.ledger.rollback(*epoch, number),
             Call::Open { epoch } => self.ledger.open(*epoch, number, value),
             Call::Close { ticket } => self.ledger.close(*ticket, number),
-            Call::MoveLse { .. } | Call::Purge { .. } | Call::Scan { .. } => {}
+            Call::Recover { file } => self.ledger.recover(file, number),
+            Call::MoveLse { .. } | Call::Purge { .. } | Call::Scan { .. } | Call::Save { .. } => {}
         }
     }
 
@@ -364,6 +510,40 @@ impl Checked {
         if oldest != self.ledger.oldest_open() {
             return Err(format!("names {oldest}, the ledger {}", self.ledger.oldest_open()));
         }
+        Ok(())
+    }
+
+    /// A save writes what the ledger would show a page at its epoch: how many rows of each lot, and these rows. Behind
+    /// the bytes that it answers nothing is written (02, (v)).
+    fn compare_saved(
+        &mut self,
+        call: &Call,
+        answer: &Result<Answer, Refusal>,
+        lent: &[u8],
+    ) -> Result<(), String> {
+        let (Call::Save { epoch, .. }, Ok(Answer::Value(length))) = (call, answer) else {
+            return Ok(());
+        };
+        let (round, behind) = lent.split_at(*length as usize);
+        let (contents, mut bodies) = round.split_at(CONTENTS);
+        let mut ought = epoch.to_le_bytes().to_vec();
+        for p in 0..PARTITIONS {
+            self.ledger.show_at(*epoch, p, &mut self.shown);
+            ought.extend([self.shown.len() as u8, (self.shown.len() >> 8) as u8]);
+            for row in &self.shown {
+                let Some((word, more)) = bodies.split_at_checked(ROW) else {
+                    return Err(format!("wrote fewer rows of {p} than the ledger shows"));
+                };
+                if word != row.to_le_bytes() {
+                    return Err(format!("wrote the row {word:?} of {p}, the ledger shows {row}"));
+                }
+                bodies = more;
+            }
+        }
+        if contents != ought || !bodies.is_empty() || behind.iter().any(|&byte| byte != LENT_FILL) {
+            return Err(format!("wrote {contents:?}, the ledger has {ought:?}, or bytes behind the round"));
+        }
+        self.coverage.saved += 1;
         Ok(())
     }
 
@@ -392,7 +572,7 @@ impl Checked {
             let part = self.store.manager.partitions.at[p];
             let needed = bytes_needed(part.rows);
             self.bits.clear();
-            self.bits.resize(needed, BITMAP_FILL);
+            self.bits.resize(needed, LENT_FILL);
             for &reader in &closed {
                 if self.store.scan(reader, p as u64, &mut self.bits) != Err(Refusal::NotOpen) {
                     return Err(format!("a scan of {p} for {reader:?}, not open, is not refused by 2"));
@@ -434,7 +614,7 @@ impl Checked {
     /// Counts what the call met. `before` is still the state before it.
     fn cover(&mut self, call: &Call, answer: &Result<Answer, Refusal>) {
         let number = number_of(answer);
-        let Checked { store, before, coverage, .. } = self;
+        let Checked { store, before, coverage, recovered, .. } = self;
         coverage.calls += 1;
         coverage.numbers[call.kind()][number as usize] += 1;
         if number != 0 {
@@ -453,7 +633,8 @@ impl Checked {
         };
         let (old, new) = (&before.manager, &store.manager);
         let lowered = old.totals.iter().zip(&new.totals).any(|(was, is)| is < was);
-        coverage.meet(Edge::ClearingLoweredTotal, lowered && !matches!(call, Call::New { .. }));
+        let starts = matches!(call, Call::New { .. } | Call::Recover { .. });
+        coverage.meet(Edge::ClearingLoweredTotal, lowered && !starts);
         match call {
             Call::Append { partition, rows, .. } if *partition < 8 => {
                 let (was, is) =
@@ -467,10 +648,12 @@ impl Checked {
                 coverage.meet(Edge::EndMovedAt64Entries, at_all && !rows.is_empty());
                 coverage.meet(Edge::EmptyBatchAt64Entries, at_all && rows.is_empty());
                 coverage.meet(Edge::EmptyBatchAt512Rows, accepted && was.rows == full && rows.is_empty());
+                coverage.meet(Edge::AppendAfterRecovery, accepted && *recovered && !rows.is_empty());
             }
             Call::Clear { partition, .. } if accepted => {
                 let is = &new.partitions.at[*partition as usize];
                 coverage.meet(Edge::EntriesAll64ByClear, is.entries == AREA_ENTRIES as u64);
+                coverage.meet(Edge::ClearAfterRecovery, *recovered);
             }
             Call::Begin => {
                 let count = new.rw.count as usize;
@@ -532,6 +715,7 @@ impl Checked {
                     return;
                 };
                 coverage.meet(Edge::PurgeRewritten, true);
+                coverage.meet(Edge::PurgeAfterRecovery, *recovered);
                 coverage.meet(Edge::PurgeKeptTotal, old.totals[p] > 0 && new.totals[p] == old.totals[p]);
                 let old_entries = entries_of(was, &before.entries);
                 let is_row = |item: &&Item| matches!(item, Item::Row { .. });
@@ -560,6 +744,14 @@ impl Checked {
                 coverage.meet(Edge::OwnClearHidesEarlierRow, own.is_some_and(|own| own.hides_earlier));
                 coverage.meet(Edge::OwnClearShowsRowAfter, own.is_some_and(|own| own.shows_after));
             }
+            Call::Save { epoch, lent } => coverage.meet_save(before, *epoch, *lent, number, *recovered),
+            Call::Recover { file } => {
+                coverage.meet_recovery(before, file);
+                if accepted {
+                    *recovered = new.partitions.at.iter().any(|part| part.rows > 0);
+                }
+            }
+            Call::New { .. } if accepted => *recovered = false,
             _ => {}
         }
     }
@@ -599,8 +791,8 @@ pub fn own_clearing(store: &Store, reader: Reader, partition: u64) -> Option<Own
 /// Runs a random history of so many calls with the checks. What fails is told with its place.
 pub fn run_history(seed: u64, profile: Profile, calls: u64, checks: Checks) -> Result<Coverage, String> {
     let mut random = Calls::new(seed, profile);
-    let (store, start) = random.first_store();
-    let mut checked = Checked::new(store, start, checks);
+    let (store, ledger) = random.first_store();
+    let mut checked = Checked::new(store, ledger, checks);
     for at in 0..calls {
         let call = random.next_call(&checked.store);
         checked.call(&call).map_err(|what| format!("{} seed {seed} call {at}: {what}", profile.name))?;
@@ -612,7 +804,7 @@ pub fn run_history(seed: u64, profile: Profile, calls: u64, checks: Checks) -> R
 pub fn run_lines(seed: u64, profile: Profile, count: u64) -> Result<Coverage, String> {
     let mut lines = Lines::new(seed, profile);
     let mut session = Session::default();
-    let mut checked = Checked::new(Store::new(1), 1, Checks::ALL);
+    let mut checked = Checked::new(Store::new(1), Ledger::new(1), Checks::ALL);
     for at in 0..count {
         let line = lines.next_line();
         let printed = session.answer(&line);
@@ -621,7 +813,7 @@ pub fn run_lines(seed: u64, profile: Profile, count: u64) -> Result<Coverage, St
             Some(call) => {
                 let told = |what| format!("{} seed {seed} line {at}: {what}", profile.name);
                 let outcome = checked.call(&call).map_err(told)?;
-                print(&call, &outcome.answer, &checked.store, &outcome.bitmap)
+                print(&call, &outcome.answer, &checked.store, &outcome.lent)
             }
         };
         if printed != expected || session.store != checked.store {

@@ -1,4 +1,5 @@
-//! A second reading of calls: refusals as a table, row by row (01, "The books", "Lots", refusals; 02, (i) to (iii)).
+//! A second reading of calls: refusals as a table, row by row (01, "The books", "Lots", refusals; 02, (i) to (iii),
+//! (v)).
 //!
 //! It uses the shape of the books, the test of *sound*, and nothing else of the store's code, so that the two
 //! can be compared word for word.
@@ -12,7 +13,7 @@ use crate::visible::Reader;
 use std::collections::{BTreeMap, BTreeSet};
 
 /// The order in which refusals are checked.
-const ORDER: [u64; 10] = [5, 1, 2, 4, 3, 6, 7, 8, 9, 10];
+const ORDER: [u64; 11] = [5, 1, 2, 4, 3, 6, 7, 8, 9, 10, 11];
 
 /// All refusals whose condition holds for the call, in the order in which they are checked.
 /// In a store that is not well-formed the others have no meaning.
@@ -27,6 +28,16 @@ pub fn due(store: &Store, call: &Call) -> Vec<u64> {
         }
         return due;
     }
+    if let Call::Recover { file } = call {
+        let mut due = Vec::new();
+        if !lengths_right(store) {
+            due.push(5);
+        }
+        if matches!(read_file(file).end, End::Corrupt(_)) {
+            due.push(11);
+        }
+        return due;
+    }
     if !well_formed(store) {
         return vec![5];
     }
@@ -35,9 +46,9 @@ pub fn due(store: &Store, call: &Call) -> Vec<u64> {
         |epoch: u64| !(0..rw.count as usize).any(|i| rw.at[i].epoch == epoch && rw.at[i].waiting == 0);
     let no_ro = |ticket: u64| !(0..ro.count as usize).any(|i| ro.at[i].ticket == ticket);
     let at = |p: u64| partitions.at.get(p.min(8) as usize);
-    let mut holds = [false; 11];
+    let mut holds = [false; 12];
     match call {
-        Call::New { .. } => {}
+        Call::New { .. } | Call::Recover { .. } => {}
         Call::Begin => {
             holds[6] = clock.ec == 2_147_483_648;
             holds[7] = rw.count == 32;
@@ -77,6 +88,10 @@ pub fn due(store: &Store, call: &Call) -> Vec<u64> {
                 Reader::Ro(ticket) => no_ro(*ticket),
             };
             holds[3] = at(*partition).is_some_and(|part| (*lent as u64) * 8 < part.rows);
+        }
+        Call::Save { epoch, lent } => {
+            holds[4] = *epoch < clock.lse || *epoch > clock.lce;
+            holds[3] = *lent < 24 + 8 * (0..8).map(|p| words_at(store, *epoch, p).len()).sum::<usize>();
         }
     }
     ORDER.into_iter().filter(|&number| holds[number as usize]).collect()
@@ -229,46 +244,105 @@ fn shown(items: &[Item], last: u64, unseen: &[u64]) -> Vec<bool> {
     bits
 }
 
-/// The totals worked out afresh: the low 32 bits of each row that a page at LCE would show.
-fn totals(store: &Store) -> [u64; 8] {
-    std::array::from_fn(|p| {
-        let items = items(store, p);
-        let mut shown = shown(&items, store.manager.clock.lce, &[]).into_iter();
-        let mut total = 0;
-        for item in &items {
-            if let Item::Row { word, .. } = item {
-                total += if shown.next() == Some(true) { word % (1 << 32) } else { 0 };
-            }
-        }
-        total
-    })
+/// The words of a lot that a page at this epoch would be shown.
+fn words_at(store: &Store, epoch: u64, p: usize) -> Vec<u64> {
+    let items = items(store, p);
+    let words = items.iter().filter_map(|item| match item {
+        Item::Row { word, .. } => Some(*word),
+        Item::Clearing { .. } => None,
+    });
+    words.zip(shown(&items, epoch, &[])).filter(|(_, shown)| *shown).map(|(word, _)| word).collect()
 }
 
-/// Makes the store what the call must leave and the bitmap what it must hold. Answers number and values.
-pub fn step(store: &mut Store, call: &Call, bitmap: &mut [u8]) -> (u64, Answer) {
+/// The totals worked out afresh: the low 32 bits of each row that a page at LCE would show.
+fn totals(store: &Store) -> [u64; 8] {
+    let lce = store.manager.clock.lce;
+    std::array::from_fn(|p| words_at(store, lce, p).iter().map(|word| word % (1 << 32)).sum())
+}
+
+/// A file of rounds as it is read from its first byte on.
+#[derive(Clone, Debug, PartialEq, Eq)]
+pub struct FileRead {
+    /// Each whole round: L, and the words of each lot.
+    pub whole: Vec<(u64, Vec<Vec<u64>>)>,
+    pub end: End,
+}
+
+/// What stands behind the whole rounds of a file.
+#[derive(Clone, Copy, Debug, PartialEq, Eq)]
+pub enum End {
+    Nothing,
+    /// Fewer bytes than a table of contents has.
+    CutContents,
+    /// A table of contents, and fewer bytes than its bodies have.
+    CutBody,
+    /// A table of contents that is refused.
+    Corrupt(Flaws),
+}
+
+/// What is wrong in a table of contents, and whether its bodies are whole.
+#[derive(Clone, Copy, Debug, PartialEq, Eq)]
+pub struct Flaws {
+    pub count: bool,
+    pub above: bool,
+    pub falls: bool,
+    pub zero: bool,
+    pub whole: bool,
+}
+
+/// Reads a file round by round, up to the first table of contents that is refused.
+pub fn read_file(file: &[u8]) -> FileRead {
+    let number = |from: usize, width: usize| {
+        (0..width).map(|i| u64::from(file[from + i]) * 256_u64.pow(i as u32)).sum::<u64>()
+    };
+    let mut whole: Vec<(u64, Vec<Vec<u64>>)> = Vec::new();
+    let mut at = 0;
+    let end = loop {
+        let left = file.len() - at;
+        if left < 24 {
+            break if left == 0 { End::Nothing } else { End::CutContents };
+        }
+        let l = number(at, 8);
+        let counts: Vec<usize> = (0..8).map(|p| number(at + 8 + 2 * p, 2) as usize).collect();
+        let all: usize = counts.iter().sum();
+        let flaws = Flaws {
+            count: counts.iter().any(|&count| count > 512),
+            above: l > 2_147_483_647,
+            falls: whole.last().is_some_and(|&(before, _)| l < before),
+            zero: l == 0 && all > 0,
+            whole: left >= 24 + 8 * all,
+        };
+        if flaws.count || flaws.above || flaws.falls || flaws.zero {
+            break End::Corrupt(flaws);
+        }
+        if !flaws.whole {
+            break End::CutBody;
+        }
+        at += 24;
+        let mut lots = Vec::new();
+        for count in counts {
+            lots.push((0..count).map(|row| number(at + 8 * row, 8)).collect());
+            at += 8 * count;
+        }
+        whole.push((l, lots));
+    };
+    FileRead { whole, end }
+}
+
+/// Makes the store what the call must leave and the lent bytes what they must be. Answers number and values.
+pub fn step(store: &mut Store, call: &Call, lent: &mut [u8]) -> (u64, Answer) {
     if let Some(&number) = due(store, call).first() {
         return (number, Answer::Nothing);
     }
-    let answer = accepted(store, call, bitmap);
+    let answer = accepted(store, call, lent);
     store.manager.totals = totals(store);
     (0, answer)
 }
 
-fn accepted(store: &mut Store, call: &Call, bitmap: &mut [u8]) -> Answer {
+fn accepted(store: &mut Store, call: &Call, lent: &mut [u8]) -> Answer {
     let value = match call {
         Call::New { start } => {
-            let zero_txn = RwTxn { epoch: 0, waiting: 0, deps: [0; 31], deps_count: 0 };
-            let books = &mut store.manager;
-            (books.clock.ec, books.clock.lce, books.clock.lse) = (*start, start - 1, start - 1);
-            books.rw.at = [zero_txn; 32];
-            books.rw.count = 0;
-            books.ro.at = [RoTxn { ticket: 0, epoch: 0 }; 32];
-            books.ro.count = 0;
-            books.ro.next = 1;
-            for p in 0..8 {
-                books.partitions.at[p] = Partition { area: p as u64, rows: 0, entries: 0 };
-            }
-            books.partitions.spare = 8;
+            make_new(&mut store.manager, *start);
             return Answer::Nothing;
         }
         Call::Begin => {
@@ -358,14 +432,56 @@ fn accepted(store: &mut Store, call: &Call, bitmap: &mut [u8]) -> Answer {
         }
         Call::Scan { reader, partition, .. } => {
             let bits = bits(store, *reader, *partition as usize);
-            for (byte, eight) in bitmap.iter_mut().zip(bits.chunks(8)) {
+            for (byte, eight) in lent.iter_mut().zip(bits.chunks(8)) {
                 *byte = eight.iter().rev().fold(0, |byte, &bit| byte << 1 | u8::from(bit));
             }
             let ones = bits.iter().filter(|&&bit| bit).count() as u64;
             return Answer::Scanned(Scanned { rows: bits.len() as u64, ones });
         }
+        Call::Save { epoch, .. } => {
+            let lots: Vec<Vec<u64>> = (0..8).map(|p| words_at(store, *epoch, p)).collect();
+            let counts = lots.iter().map(|lot| (lot.len() as u64, 2));
+            let words = lots.iter().flatten().map(|&word| (word, 8));
+            let mut at = 0;
+            for (number, width) in [(*epoch, 8)].into_iter().chain(counts).chain(words) {
+                for byte in 0..width {
+                    lent[at] = (number / 256_u64.pow(byte) % 256) as u8;
+                    at += 1;
+                }
+            }
+            at as u64
+        }
+        Call::Recover { file } => {
+            let read = read_file(file);
+            match read.whole.last() {
+                None => make_new(&mut store.manager, 1),
+                Some((l, lots)) => {
+                    make_new(&mut store.manager, l + 1);
+                    for (p, lot) in lots.iter().enumerate() {
+                        let row = |&word| Item::Row { epoch: *l, word, gap: false };
+                        put(store, p, p as u64, &lot.iter().map(row).collect::<Vec<_>>());
+                    }
+                }
+            }
+            return Answer::Nothing;
+        }
     };
     Answer::Value(value)
+}
+
+/// Makes the books new.
+fn make_new(books: &mut Manager, start: u64) {
+    let zero_txn = RwTxn { epoch: 0, waiting: 0, deps: [0; 31], deps_count: 0 };
+    (books.clock.ec, books.clock.lce, books.clock.lse) = (start, start - 1, start - 1);
+    books.rw.at = [zero_txn; 32];
+    books.rw.count = 0;
+    books.ro.at = [RoTxn { ticket: 0, epoch: 0 }; 32];
+    books.ro.count = 0;
+    books.ro.next = 1;
+    for p in 0..8 {
+        books.partitions.at[p] = Partition { area: p as u64, rows: 0, entries: 0 };
+    }
+    books.partitions.spare = 8;
 }
 
 /// Load records by epoch: whether each waits, and its deps.

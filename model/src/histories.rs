@@ -1,8 +1,11 @@
-//! Random calls and random session lines by seed and profile (01, "A session" and the calls).
+//! Random calls and random session lines by seed and profile (01, "A session" and the calls; 02, (v)).
 
 use crate::call::Call;
+use crate::files::any_file;
+use crate::ledger::Ledger;
 use crate::partition::{entries_of, Entry, Partition};
 use crate::random::Rng;
+use crate::round::{Round, CONTENTS};
 use crate::session::{line_of, parse, LONGEST_LINE};
 use crate::store::{Manager, Store};
 use crate::visible::{bytes_needed, Reader};
@@ -23,13 +26,14 @@ pub struct Profile {
     pub wrong: u64,
     /// Of 1,000 lines, how many are garbage. Calls do not look at it.
     pub garbage: u64,
-    /// Weights: begin or end a load, append, clear, open or close a page, move LSE, purge, scan, make new.
-    pub weights: [u64; 8],
+    /// Weights: begin or end a load, append, clear, open or close a page, move LSE, purge, scan, make new, save,
+    /// recover.
+    pub weights: [u64; 10],
     /// Of 1,000 ended loads, how many are rolled back.
     pub rollback: u64,
 }
 
-pub const PROFILES: [Profile; 10] = [
+pub const PROFILES: [Profile; 11] = [
     Profile {
         name: "mixed",
         partitions: 8,
@@ -38,7 +42,7 @@ pub const PROFILES: [Profile; 10] = [
         batch: 12,
         wrong: 40,
         garbage: 10,
-        weights: [200, 350, 60, 80, 60, 120, 120, 3],
+        weights: [200, 350, 60, 80, 60, 120, 120, 3, 30, 3],
         rollback: 200,
     },
     Profile {
@@ -49,7 +53,7 @@ pub const PROFILES: [Profile; 10] = [
         batch: 30,
         wrong: 20,
         garbage: 5,
-        weights: [200, 350, 40, 80, 80, 120, 100, 2],
+        weights: [200, 350, 40, 80, 80, 120, 100, 2, 30, 2],
         rollback: 200,
     },
     Profile {
@@ -60,7 +64,7 @@ pub const PROFILES: [Profile; 10] = [
         batch: 2,
         wrong: 15,
         garbage: 5,
-        weights: [100, 600, 60, 40, 10, 10, 60, 0],
+        weights: [100, 600, 60, 40, 10, 10, 60, 0, 10, 0],
         rollback: 150,
     },
     Profile {
@@ -71,7 +75,7 @@ pub const PROFILES: [Profile; 10] = [
         batch: 4,
         wrong: 15,
         garbage: 5,
-        weights: [500, 250, 20, 40, 40, 60, 60, 1],
+        weights: [500, 250, 20, 40, 40, 60, 60, 1, 20, 1],
         rollback: 250,
     },
     Profile {
@@ -82,7 +86,7 @@ pub const PROFILES: [Profile; 10] = [
         batch: 8,
         wrong: 15,
         garbage: 5,
-        weights: [200, 250, 40, 200, 40, 80, 60, 1],
+        weights: [200, 250, 40, 200, 40, 80, 60, 1, 30, 1],
         rollback: 150,
     },
     Profile {
@@ -93,7 +97,7 @@ pub const PROFILES: [Profile; 10] = [
         batch: 8,
         wrong: 15,
         garbage: 5,
-        weights: [200, 300, 250, 70, 60, 100, 80, 1],
+        weights: [200, 300, 250, 70, 60, 100, 80, 1, 30, 1],
         rollback: 150,
     },
     Profile {
@@ -104,7 +108,7 @@ pub const PROFILES: [Profile; 10] = [
         batch: 8,
         wrong: 15,
         garbage: 5,
-        weights: [300, 400, 60, 60, 40, 60, 80, 1],
+        weights: [300, 400, 60, 60, 40, 60, 80, 1, 20, 1],
         rollback: 750,
     },
     Profile {
@@ -115,7 +119,18 @@ pub const PROFILES: [Profile; 10] = [
         batch: 10,
         wrong: 15,
         garbage: 5,
-        weights: [250, 250, 80, 60, 180, 250, 60, 1],
+        weights: [250, 250, 80, 60, 180, 250, 60, 1, 30, 1],
+        rollback: 150,
+    },
+    Profile {
+        name: "save-heavy",
+        partitions: 8,
+        rw: 4,
+        ro: 3,
+        batch: 40,
+        wrong: 30,
+        garbage: 5,
+        weights: [250, 250, 60, 40, 40, 40, 40, 2, 250, 40],
         rollback: 150,
     },
     Profile {
@@ -126,7 +141,7 @@ pub const PROFILES: [Profile; 10] = [
         batch: 60,
         wrong: 450,
         garbage: 30,
-        weights: [200, 250, 100, 120, 100, 80, 150, 10],
+        weights: [200, 250, 100, 120, 100, 80, 150, 10, 60, 10],
         rollback: 200,
     },
     Profile {
@@ -137,7 +152,7 @@ pub const PROFILES: [Profile; 10] = [
         batch: 12,
         wrong: 100,
         garbage: 450,
-        weights: [200, 350, 60, 80, 60, 120, 120, 3],
+        weights: [200, 350, 60, 80, 60, 120, 120, 3, 30, 3],
         rollback: 200,
     },
 ];
@@ -165,6 +180,8 @@ pub struct Calls {
     phase: Phase,
     /// Calls left in this phase.
     left: u64,
+    /// The rounds of the accepted saves, for a later recovery.
+    saved: Vec<Round>,
 }
 
 impl Calls {
@@ -173,20 +190,26 @@ impl Calls {
         for byte in profile.name.bytes() {
             mixed = Rng::new(mixed.any() ^ u64::from(byte));
         }
-        Calls { rng: mixed, profile, phase: Phase::Usual, left: 0 }
+        Calls { rng: mixed, profile, phase: Phase::Usual, left: 0, saved: Vec::new() }
     }
 
-    /// A store that making new left in areas of any words, and its starting epoch.
+    /// A store that making new or recovery left in areas of any words, and its ledger.
     /// A few start near the last epoch or the last ticket.
-    pub fn first_store(&mut self) -> (Store, u64) {
+    pub fn first_store(&mut self) -> (Store, Ledger) {
         let start = match self.rng.below(10) {
             0..=5 => 1,
             6 | 7 => self.rng.within(1, LAST_EPOCH),
             _ => LAST_EPOCH - self.rng.below(80),
         };
         let mut store = Store::new(start);
+        let mut ledger = Ledger::new(start);
         if self.rng.per_mille(500) {
             fill_areas(&mut store, &mut self.rng);
+        }
+        if self.rng.per_mille(200) {
+            let file = any_file(&mut self.rng, &[], 0);
+            assert_eq!(store.recover(&file), Ok(()));
+            ledger = Ledger::recovered(&file);
         }
         if self.rng.per_mille(200) {
             store.manager.ro.next = TICKET_END - self.rng.below(50);
@@ -197,9 +220,9 @@ impl Calls {
             store.manager = Manager::starting_at(last);
             store.manager.ro.next = TICKET_END - TXNS as u64;
             (self.phase, self.left) = (Phase::Burst, 200);
-            return (store, last);
+            return (store, Ledger::new(last));
         }
-        (store, start)
+        (store, ledger)
     }
 
     fn wrong(&mut self) -> bool {
@@ -245,7 +268,9 @@ impl Calls {
             4 => Call::MoveLse { target: self.page_epoch(store) },
             5 => self.purge(store),
             6 => self.scan(store),
-            _ => Call::New { start: self.start() },
+            7 => Call::New { start: self.start() },
+            8 => self.save(store),
+            _ => self.recover(),
         }
     }
 
@@ -364,6 +389,47 @@ impl Calls {
         Call::Scan { reader, partition, lent }
     }
 
+    /// A save at an epoch in range or not, lent as many bytes as it needs or not. An accepted one is kept.
+    fn save(&mut self, store: &Store) -> Call {
+        let clock = store.manager.clock;
+        let epoch = match self.rng.below(8) {
+            _ if self.wrong() => self.page_epoch(store),
+            0 => 0,
+            1 => clock.lse,
+            2..=5 => clock.lce,
+            _ => self.rng.within(clock.lse, clock.lce),
+        };
+        let round = store.round_at(epoch);
+        let needed = round.length();
+        let lent = match self.rng.below(10) {
+            0 => needed + 1,
+            1 => needed + self.rng.within(2, 100) as usize,
+            2 if self.wrong() => 0,
+            3 if self.wrong() => CONTENTS,
+            4 | 5 if self.wrong() => needed - 1,
+            _ => needed,
+        };
+        if (clock.lse..=clock.lce).contains(&epoch) && needed <= lent {
+            self.keep(round);
+        }
+        Call::Save { epoch, lent }
+    }
+
+    /// Puts a round behind those that were saved before, or into a file of its own. In one file epochs never fall, but
+    /// now and then they do.
+    fn keep(&mut self, round: Round) {
+        let falls = self.saved.last().is_some_and(|last| round.epoch < last.epoch);
+        if self.rng.per_mille(if falls { 950 } else { 150 }) {
+            self.saved.clear();
+        }
+        self.saved.push(round);
+    }
+
+    fn recover(&mut self) -> Call {
+        let wrong = if self.wrong() { 1000 } else { 200 };
+        Call::Recover { file: any_file(&mut self.rng, &self.saved, wrong) }
+    }
+
     fn partition(&mut self) -> u64 {
         if self.wrong() {
             match self.rng.below(3) {
@@ -453,7 +519,7 @@ impl Lines {
         let rng = &mut self.calls.rng;
         let line = if rng.per_mille(self.calls.profile.garbage) { garbage(line, rng) } else { line };
         if let Some(call) = parse(&line) {
-            let _ = call.run(&mut self.store, &mut call.lent_bitmap());
+            let _ = call.run(&mut self.store, &mut call.lent_bytes());
         }
         line
     }

@@ -1,6 +1,7 @@
-//! The ledger of demand 3, which shares no code with the store (01, "The ledger of demand 3"; 02, (ii), (iii)).
+//! The ledger of demand 3, which shares no code with the store (01, "The ledger of demand 3"; 02, (ii), (iii), (v)).
 //!
-//! It is fed each call's arguments and number, begin's epoch and open's ticket. Number 0 means accepted.
+//! It is fed each call's arguments and number, begin's epoch and open's ticket. Number 0 means accepted. From saving it
+//! takes nothing; a recovery starts it anew, as making new does.
 
 use std::collections::{BTreeMap, BTreeSet};
 
@@ -38,9 +39,32 @@ impl Ledger {
         Ledger { start, rw: BTreeMap::new(), ro: BTreeMap::new(), lists: Default::default() }
     }
 
+    /// The ledger of a store that an accepted recovery of `file` left: its first rows are those of the last whole
+    /// round, as of a committed load. A round of epoch 0 is of no load, and has no rows.
+    pub fn recovered(file: &[u8]) -> Ledger {
+        let Some((epoch, lots)) = last_whole_round(file) else {
+            return Ledger::new(1);
+        };
+        let mut ledger = Ledger::new(epoch + 1);
+        if epoch > 0 {
+            ledger.begin(0, epoch);
+            for (partition, rows) in (0..).zip(&lots) {
+                ledger.append(epoch, partition, rows, 0);
+            }
+            ledger.commit(epoch, 0);
+        }
+        ledger
+    }
+
     pub fn make_new(&mut self, start: u64, number: u64) {
         if number == 0 {
             *self = Ledger::new(start);
+        }
+    }
+
+    pub fn recover(&mut self, file: &[u8], number: u64) {
+        if number == 0 {
+            *self = Ledger::recovered(file);
         }
     }
 
@@ -147,6 +171,11 @@ impl Ledger {
         self.show(&self.ro[&ticket], partition, shown);
     }
 
+    /// What the ledger would show a page opened now at this epoch of a lot, put into `shown`.
+    pub fn show_at(&self, epoch: u64, partition: usize, shown: &mut Vec<u64>) {
+        self.show(&self.committed_up_to(epoch), partition, shown);
+    }
+
     /// The low 32 bits of what the ledger would show a page opened now at 0, added up for each lot.
     pub fn totals(&self) -> [u64; 8] {
         let snapshot = self.committed_up_to(self.newest_settled());
@@ -177,4 +206,23 @@ impl Ledger {
             }
         }
     }
+}
+
+/// Takes so many bytes off a file, if there are so many, as numbers of `width` bytes each.
+fn take(file: &mut &[u8], count: usize, width: usize) -> Option<Vec<u64>> {
+    let (bytes, rest) = file.split_at_checked(count * width)?;
+    *file = rest;
+    let number = |bytes: &[u8]| bytes.iter().rev().fold(0, |number, &byte| number << 8 | u64::from(byte));
+    Some(bytes.chunks(width).map(number).collect())
+}
+
+/// The epoch and the rows of the last whole round of a file that was accepted.
+fn last_whole_round(mut file: &[u8]) -> Option<(u64, Vec<Vec<u64>>)> {
+    let mut next = || {
+        let epoch = take(&mut file, 1, 8)?[0];
+        let counts = take(&mut file, 8, 2)?;
+        let lots: Option<_> = counts.iter().map(|&count| take(&mut file, count as usize, 8)).collect();
+        Some((epoch, lots?))
+    };
+    std::iter::from_fn(&mut next).last()
 }

@@ -1,25 +1,30 @@
-//! A plain model of the store of document 01, with requests (i) to (iii) of document 02: its limits (01, "Words of
-//! this store", "Lots", refusals).
+//! A plain model of the store of document 01, with requests (i) to (iii) and (v) of document 02: its limits (01,
+//! "Words of this store", "Lots", refusals).
 //!
 //! The modules, by subject:
 //! - `clock`, `txn`, `partition`, `visible`, `store`: the store and its calls;
+//! - `round`: saved rounds as bytes;
 //! - `sound`: what a well-formed store is, clause by clause;
 //! - `ledger`: the ledger of demand 3, which uses nothing of the store;
 //! - `session`: the line program;
 //! - `call`, `expect`, `check`: calls as values, what each must do by a second reading, histories checked;
-//! - `random`, `histories`, `stores`: seeded numbers, random calls and lines, random and spoilt stores;
-//! - `cases`: the fixed cases; `variant`: wrong readings that the tests must tell apart.
+//! - `random`, `histories`, `stores`, `files`: seeded numbers, random calls and lines, random and spoilt stores,
+//!   random and corrupt files of rounds;
+//! - `cases`, `round_cases`: the fixed cases; `variant`: wrong readings that the tests must tell apart.
 
 pub mod call;
 pub mod cases;
 pub mod check;
 pub mod clock;
 pub mod expect;
+pub mod files;
 pub mod histories;
 pub mod ledger;
 pub mod partition;
 pub mod random;
 pub mod refusal;
+pub mod round;
+mod round_cases;
 pub mod session;
 pub mod sound;
 pub mod store;

@@ -1,4 +1,4 @@
-//! The ten refusals and their numbers (01, "Refusals that come from the input" and "... from the state").
+//! The eleven refusals and their numbers (01, "Refusals that come from the input" and "... from the state"; 02, (v)).
 
 #[derive(Clone, Copy, Debug, PartialEq, Eq)]
 pub enum Refusal {
@@ -6,9 +6,9 @@ pub enum Refusal {
     NoPartition = 1,
     /// The epoch or ticket is not that of an open load or page.
     NotOpen = 2,
-    /// The bitmap is shorter than the rows need.
-    BitmapShort = 3,
-    /// Starting epoch, page epoch or LSE target out of range.
+    /// The bitmap of a scan, or the output of a save, is shorter than the rows need.
+    TooShort = 3,
+    /// Starting epoch, page epoch, LSE target or the epoch of a save out of range.
     OutOfRange = 4,
     /// The store is unsound, or lent areas have a wrong length.
     NotWellFormed = 5,
@@ -22,6 +22,8 @@ pub enum Refusal {
     EntriesFull = 9,
     /// The move of LSE is held.
     Blocked = 10,
+    /// A table of contents with a count above 512, an epoch out of range or below the round before, or 0 with rows.
+    Corrupt = 11,
 }
 
 impl Refusal {

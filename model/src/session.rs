@@ -69,10 +69,10 @@ fn number(word: &[u8]) -> Option<u64> {
     Some(value)
 }
 
-/// The line of a call; making new has none.
+/// The line of a call; making new, saving and recovery have none.
 pub fn line_of(call: &Call) -> Option<String> {
     let line = match call {
-        Call::New { .. } => return None,
+        Call::New { .. } | Call::Save { .. } | Call::Recover { .. } => return None,
         Call::Begin => "B".to_string(),
         Call::Append { epoch, partition, rows } => {
             let mut line = format!("A {epoch} {partition}");
@@ -108,6 +108,8 @@ pub fn print(call: &Call, answer: &Result<Answer, Refusal>, store: &Store, bitma
         Call::MoveLse { .. } => 'L',
         Call::Purge { .. } => 'P',
         Call::Scan { .. } => 'S',
+        Call::Save { .. } => 'K',
+        Call::Recover { .. } => 'V',
     };
     let mut line = format!("{letter} {}", number_of(answer));
     match (call, answer) {

@@ -1,12 +1,14 @@
-//! The store and its calls, each with its refusals in 01's order (01, "The books", "Lots", refusals; 02, (i), (iii)).
+//! The store and its calls, each with its refusals in 01's order (01, "The books", "Lots", refusals; 02, (i), (iii),
+//! (v)).
 
 use crate::clock::Clock;
-use crate::partition::{entries_of, extends_last, rows_of, Areas, Entry, Partitions};
+use crate::partition::{entries_of, extends_last, rows_of, Areas, Entry, Partition, Partitions, ROWS};
 use crate::refusal::Refusal;
+use crate::round::{last_whole, Round};
 use crate::sound::{lengths_right, well_formed};
 use crate::txn::{blocked, greatest_free_target, RoTable, RwTable};
 use crate::variant::{wrong, Variant};
-use crate::visible::{bytes_needed, total, write_bits, Reader, View};
+use crate::visible::{bytes_needed, rows_shown, total, write_bits, Reader, View};
 use crate::{AREAS, AREA_ENTRIES, AREA_ROWS, EPOCH_END, LAST_EPOCH, PARTITIONS, TICKET_END, TXNS};
 
 /// The books.
@@ -303,15 +305,95 @@ impl Store {
         };
         let partition = self.manager.partitions.at[p];
         if bitmap.len() < bytes_needed(partition.rows) {
-            return Err(Refusal::BitmapShort);
+            return Err(Refusal::TooShort);
         }
         let entries = entries_of(&partition, &self.entries);
         let ones = write_bits(&view, entries, partition.rows, bitmap);
         Ok(Scanned { rows: partition.rows, ones })
     }
 
-    /// Makes the total of each lot what a page at LCE would show. Only commit and rollback move it: no other call
-    /// moves LCE, or changes what such a page would show.
+    /// Saves the lots as a page at the epoch shows them, at the front of the output; answers the bytes written. Here 0
+    /// is epoch 0.
+    pub fn save(&self, epoch: u64, output: &mut [u8]) -> Result<u64, Refusal> {
+        self.refuse_ill_formed()?;
+        let clock = self.manager.clock;
+        let epoch = if epoch == 0 && wrong(Variant::SaveZeroMeansLce) { clock.lce } else { epoch };
+        if !(clock.lse..=clock.lce).contains(&epoch) {
+            return Err(Refusal::OutOfRange);
+        }
+        let round = self.round_at(epoch);
+        let length = round.length();
+        if output.len() < length + usize::from(wrong(Variant::SaveNeedsOneMore)) {
+            if wrong(Variant::SaveShortWrites) {
+                output.copy_from_slice(&round.bytes()[..output.len()]);
+            }
+            return Err(Refusal::TooShort);
+        }
+        round.write(output);
+        if wrong(Variant::SaveClearsRest) {
+            output[length..].fill(0);
+        }
+        Ok(length as u64)
+    }
+
+    /// The lots as a page at the epoch would show them. The store is well-formed here.
+    pub fn round_at(&self, epoch: u64) -> Round {
+        let shown_at = if wrong(Variant::SaveAtLce) {
+            self.manager.clock.lce
+        } else if wrong(Variant::SaveCountsOpen) {
+            self.manager.clock.ec
+        } else {
+            epoch
+        };
+        let lots = self.manager.partitions.at.map(|partition| {
+            let (entries, rows) = (entries_of(&partition, &self.entries), rows_of(&partition, &self.rows));
+            rows_shown(&View::Ro(shown_at), entries, rows)
+        });
+        Round { epoch, lots }
+    }
+
+    /// Makes the store what the last whole round of the file holds, or new at 1 where there is none. Reads no state,
+    /// and writes no row and no entry beyond those of the round.
+    pub fn recover(&mut self, file: &[u8]) -> Result<(), Refusal> {
+        if !lengths_right(self) {
+            return Err(Refusal::NotWellFormed);
+        }
+        let round = last_whole(file)?;
+        let old = self.manager;
+        if round.is_none() && wrong(Variant::RecoverKeepsWithoutRound) {
+            return Ok(());
+        }
+        let Round { epoch, lots } = round.unwrap_or_default();
+        self.manager = Manager::starting_at(epoch + 1);
+        if wrong(Variant::RecoverLseZero) {
+            self.manager.clock.lse = 0;
+        }
+        if wrong(Variant::RecoverKeepsTicket) {
+            self.manager.ro.next = old.ro.next;
+        }
+        if wrong(Variant::RecoverKeepsAreas) {
+            for (partition, was) in self.manager.partitions.at.iter_mut().zip(&old.partitions.at) {
+                partition.area = was.area;
+            }
+            self.manager.partitions.spare = old.partitions.spare;
+        }
+        for (partition, lot) in self.manager.partitions.at.iter_mut().zip(&lots) {
+            if lot.is_empty() && !wrong(Variant::RecoverEntryForEmpty) {
+                continue;
+            }
+            let (area, end) = (partition.area, lot.len() as u64);
+            self.rows[area as usize * AREA_ROWS..][..lot.len()].copy_from_slice(lot);
+            self.entries[area as usize * AREA_ENTRIES] = Entry { epoch, end, mark: ROWS };
+            *partition = Partition { area, rows: end, entries: 1 };
+        }
+        if !wrong(Variant::RecoverDropsTotals) {
+            self.settle_totals();
+        }
+        Ok(())
+    }
+
+    /// Makes the total of each lot what a page at LCE would show. Only commit, rollback and recovery move it: no other
+    /// call moves LCE, or changes what such a page would show.
     pub fn settle_totals(&mut self) {
         let Manager { clock, partitions, totals, .. } = &mut self.manager;
         let epoch = if wrong(Variant::TotalAtLse) {

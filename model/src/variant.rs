@@ -1,4 +1,4 @@
-//! Wrong readings, one changed line each, for the tests (01, "Where hands go wrong", "Agreed"; 02, (i) to (iii)).
+//! Wrong readings, one changed line each, for the tests (01, "Where hands go wrong", "Agreed"; 02, (i) to (iii), (v)).
 //!
 //! Outside this crate's own unit tests `wrong` is always false, so the store has none of them.
 
@@ -84,10 +84,56 @@ pub enum Variant {
     RollbackKeepsTotal,
     /// A purge that rewrites sets the total to 0.
     PurgeDropsTotal,
+    /// A save at 0 is one at LCE, as a page at 0 is.
+    SaveZeroMeansLce,
+    /// A save shows the lots as a page at LCE would.
+    SaveAtLce,
+    /// A save keeps rows that a clearing hides.
+    SaveKeepsHidden,
+    /// A save keeps the rows of open and waiting loads.
+    SaveCountsOpen,
+    /// An output that is just enough is too short.
+    SaveNeedsOneMore,
+    /// A save that is refused for a short output writes what fits.
+    SaveShortWrites,
+    /// A save sets the later bytes of the output to 0.
+    SaveClearsRest,
+    /// Numbers in a round stand high byte first.
+    HighByteFirst,
+    /// A recovery gives the first whole round.
+    RecoverFirstRound,
+    /// A recovery gives a round whose body is cut, the rows that are missing 0.
+    RecoverCutRound,
+    /// A recovery refuses a file that is cut.
+    RecoverRefusesCut,
+    /// A recovery does not judge a table of contents whose body is cut.
+    RecoverCutUnjudged,
+    /// A recovery gives the last whole round before a corrupt table of contents.
+    RecoverStopsAtCorrupt,
+    /// A recovery refuses a round of the same epoch as the round before.
+    RecoverRefusesSame,
+    /// A recovery refuses a round of the last epoch.
+    RecoverRefusesLast,
+    /// A recovery refuses a round of epoch 0 without rows.
+    RecoverRefusesZero,
+    /// A recovery refuses a lot of 512 rows.
+    RecoverRefuses512,
+    /// A recovery without a whole round leaves the store.
+    RecoverKeepsWithoutRound,
+    /// A recovery sets LSE to 0.
+    RecoverLseZero,
+    /// A recovery keeps the next ticket.
+    RecoverKeepsTicket,
+    /// A recovery leaves each lot in its area.
+    RecoverKeepsAreas,
+    /// A recovery gives a lot without rows an entry, too.
+    RecoverEntryForEmpty,
+    /// A recovery sets the totals to 0.
+    RecoverDropsTotals,
 }
 
 impl Variant {
-    pub const ALL: [Variant; 40] = [
+    pub const ALL: [Variant; 63] = [
         Variant::PageAppliesBelowOnly,
         Variant::RollbackKeepsLce,
         Variant::LseByOpenEpochs,
@@ -128,6 +174,29 @@ impl Variant {
         Variant::CommitKeepsTotal,
         Variant::RollbackKeepsTotal,
         Variant::PurgeDropsTotal,
+        Variant::SaveZeroMeansLce,
+        Variant::SaveAtLce,
+        Variant::SaveKeepsHidden,
+        Variant::SaveCountsOpen,
+        Variant::SaveNeedsOneMore,
+        Variant::SaveShortWrites,
+        Variant::SaveClearsRest,
+        Variant::HighByteFirst,
+        Variant::RecoverFirstRound,
+        Variant::RecoverCutRound,
+        Variant::RecoverRefusesCut,
+        Variant::RecoverCutUnjudged,
+        Variant::RecoverStopsAtCorrupt,
+        Variant::RecoverRefusesSame,
+        Variant::RecoverRefusesLast,
+        Variant::RecoverRefusesZero,
+        Variant::RecoverRefuses512,
+        Variant::RecoverKeepsWithoutRound,
+        Variant::RecoverLseZero,
+        Variant::RecoverKeepsTicket,
+        Variant::RecoverKeepsAreas,
+        Variant::RecoverEntryForEmpty,
+        Variant::RecoverDropsTotals,
     ];
 }
 

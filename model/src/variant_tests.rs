@@ -1,4 +1,4 @@
-//! Each wrong reading must be told from the right one (01, "Where hands go wrong" and "Agreed"; 02, (i) to (iii)).
+//! Each wrong reading must be told from the right one (01, "Where hands go wrong" and "Agreed"; 02, (i) to (iii), (v)).
 
 use crate::cases::CASES;
 use crate::check::{run_history, Checks};
@@ -37,8 +37,15 @@ const SEEDS: u64 = 15;
 
 /// Wrong readings that keep every promise of the ledger and of *sound*: in a history only the second reading
 /// of each call tells them.
-const ONLY_BY_SECOND_READING: [Variant; 4] =
-    [Variant::TicketReused, Variant::PurgeKeepsOwnEpoch, Variant::PurgeSkipsTooMuch, Variant::RewriteInPlace];
+const ONLY_BY_SECOND_READING: [Variant; 7] = [
+    Variant::TicketReused,
+    Variant::PurgeKeepsOwnEpoch,
+    Variant::PurgeSkipsTooMuch,
+    Variant::RewriteInPlace,
+    Variant::RecoverLseZero,
+    Variant::RecoverKeepsTicket,
+    Variant::RecoverKeepsAreas,
+];
 
 #[test]
 fn the_right_reading_passes() {
@@ -94,6 +101,30 @@ fn each_named_hand_is_told_by_its_own_case() {
         (Variant::RollbackKeepsTotal, "total: by a rollback"),
         (Variant::TotalCountsHidden, "total: clearings"),
         (Variant::PurgeDropsTotal, "total: purge"),
+        (Variant::SaveZeroMeansLce, "saved: every byte"),
+        (Variant::SaveAtLce, "saved: every byte"),
+        (Variant::SaveKeepsHidden, "saved: every byte"),
+        (Variant::SaveCountsOpen, "saved: beside loads"),
+        (Variant::SaveNeedsOneMore, "saved: every byte"),
+        (Variant::SaveShortWrites, "saved: every byte"),
+        (Variant::SaveClearsRest, "saved: every byte"),
+        (Variant::HighByteFirst, "saved: every byte"),
+        (Variant::HighByteFirst, "recovered: every word"),
+        (Variant::RecoverFirstRound, "recovered: every word"),
+        (Variant::RecoverCutRound, "recovered: every cut"),
+        (Variant::RecoverRefusesCut, "recovered: every cut"),
+        (Variant::RecoverCutUnjudged, "recovered: corrupt"),
+        (Variant::RecoverStopsAtCorrupt, "recovered: corrupt"),
+        (Variant::RecoverRefusesSame, "recovered: at the edges"),
+        (Variant::RecoverRefusesLast, "recovered: at the edges"),
+        (Variant::RecoverRefusesZero, "recovered: at the edges"),
+        (Variant::RecoverRefuses512, "recovered: at the edges"),
+        (Variant::RecoverKeepsWithoutRound, "recovered: every cut"),
+        (Variant::RecoverLseZero, "recovered: every word"),
+        (Variant::RecoverKeepsTicket, "recovered: every word"),
+        (Variant::RecoverKeepsAreas, "recovered: every word"),
+        (Variant::RecoverEntryForEmpty, "recovered: every word"),
+        (Variant::RecoverDropsTotals, "recovered: every word"),
     ] {
         let (_, case) = CASES.into_iter().find(|(name, _)| *name == named).expect("a case of that name");
         choose(Some(variant));

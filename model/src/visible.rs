@@ -1,4 +1,4 @@
-//! Which rows a reader is shown, the bits of a scan, and what rows weigh (01, "Who sees a row"; 02, (ii), (iii)).
+//! Which rows a reader is shown, the bits of a scan, and what rows weigh (01, "Who sees a row"; 02, (ii), (iii), (v)).
 
 use crate::partition::{Entry, CLEARING};
 use crate::txn::RwTxn;
@@ -85,6 +85,20 @@ pub fn total(view: &View, entries: &[Entry], rows: &[u64]) -> u64 {
         start = end;
     }
     total
+}
+
+/// The rows that are shown, in their order.
+pub fn rows_shown(view: &View, entries: &[Entry], rows: &[u64]) -> Vec<u64> {
+    let mut all = Vec::with_capacity(rows.len());
+    let mut start = 0;
+    for (at, entry) in entries.iter().enumerate() {
+        let end = entry.end as usize;
+        if shown(view, entries, at) || wrong(Variant::SaveKeepsHidden) && view.sees(entry.epoch) {
+            all.extend_from_slice(&rows[start..end]);
+        }
+        start = end;
+    }
+    all
 }
 
 /// Bytes of bitmap that so many rows need.

@@ -1,5 +1,6 @@
-//! Random histories with every check after every call, and what they must have met (01, the calls).
+//! Random histories with every check after every call, and what they must have met (01, the calls; 02, (v)).
 
+use model::call::CALL_NAMES;
 use model::check::{run_history, run_lines, Checks, Coverage, Edge};
 use model::histories::PROFILES;
 
@@ -28,7 +29,11 @@ fn histories(total: u64, length: u64, first_seed: u64) -> Coverage {
 }
 
 fn told(coverage: &Coverage) {
-    println!("{} calls, {} scans compared with the ledger", coverage.calls, coverage.shown);
+    let Coverage { calls, shown, saved, .. } = coverage;
+    println!("{calls} calls, {shown} scans and {saved} saves compared with the ledger");
+    for (name, numbers) in CALL_NAMES.iter().zip(&coverage.numbers) {
+        println!("{name}: {numbers:?} by number");
+    }
     for edge in Edge::ALL {
         println!("{edge:?} {}", coverage.met(edge));
     }

@@ -1,10 +1,12 @@
-//! Well-formed stores that no history made, and stores spoilt in one field (01, the refusals: *Sound*; 02, (iii)).
+//! Well-formed stores that no history made, and stores spoilt in one field (01, the refusals: *Sound*; 02, (iii), (v)).
 
 use model::call::{Call, CALL_NAMES};
 use model::check::{Checked, Coverage};
+use model::files::any_file;
 use model::histories::{Calls, PROFILES};
 use model::partition::{Entry, CLEARING};
 use model::random::Rng;
+use model::round::Round;
 use model::sound::{broken_clauses, well_formed};
 use model::store::{Manager, Store};
 use model::stores::{changed_store, random_store, row_places, spoilt_by, RowKind, CHANGES, SPOILS};
@@ -30,6 +32,10 @@ fn one_of_each(store: &Store) -> Vec<Call> {
         Call::Purge { partition: 8 },
         Call::Scan { reader, partition: 0, lent: 64 },
         Call::Scan { reader: Reader::Ro(store.manager.ro.at[0].ticket), partition: 8, lent: 0 },
+        Call::Save { epoch: store.manager.clock.lce, lent: 33_000 },
+        Call::Save { epoch: store.manager.clock.lse, lent: 33_000 },
+        Call::Save { epoch: 0, lent: 24 },
+        Call::Save { epoch: u64::MAX, lent: 0 },
     ]
 }
 
@@ -56,7 +62,10 @@ fn calls_keep_random_stores_well_formed() {
             closed_deps += u64::from(records.iter().all(|txn| txn.epoch != *dep));
         }
         // Each kind of call on the store itself, then a few calls one after the other.
-        for call in one_of_each(&store) {
+        let mut files = vec![any_file(&mut rng, &[], 0), any_file(&mut rng, &[], 1000)];
+        files.push(store.round_at(store.manager.clock.lce).bytes());
+        let recoveries = files.into_iter().map(|file| Call::Recover { file });
+        for call in one_of_each(&store).into_iter().chain(recoveries) {
             let mut checked = Checked::without_ledger(store.clone());
             checked.call(&call).unwrap_or_else(|what| panic!("round {round}: {what}"));
             coverage.add(&checked.coverage);
@@ -92,10 +101,10 @@ fn spoilt_stores_are_refused_by_5() {
             assert!(broken.contains(clause), "{what} breaks {broken:?}, not {clause}");
             for call in one_of_each(&store) {
                 let mut after = store.clone();
-                let mut bitmap = call.lent_bitmap();
+                let mut bitmap = call.lent_bytes();
                 let answer = call.run(&mut after, &mut bitmap);
                 assert_eq!(model::call::number_of(&answer), 5, "{what}: {call:?}");
-                assert!(after == store && bitmap == call.lent_bitmap(), "{what}: {call:?} wrote");
+                assert!(after == store && bitmap == call.lent_bytes(), "{what}: {call:?} wrote");
                 refused[call.kind()] += 1;
             }
             // Making new reads no state: only the lengths count, and they come before the start.
@@ -111,6 +120,16 @@ fn spoilt_stores_are_refused_by_5() {
                 assert_eq!(well_formed(&after), number == 0);
                 assert!(after.rows == store.rows && after.entries == store.entries);
                 refused[0] += u64::from(number == 5);
+            }
+            // And so does recovery: the lengths come before what the file has.
+            let saved = Round { epoch: 9, lots: std::array::from_fn(|p| vec![p as u64; p]) }.bytes();
+            for (file, number) in [(&[][..], 0), (&saved, 0), (&saved[..100], 0), (&[0xff; 24], 11)] {
+                let mut after = store.clone();
+                let found = model::call::number_of(&after.recover(file));
+                assert_eq!(found, if *clause == "lengths" { 5 } else { number }, "{what}: recovered");
+                assert_eq!(well_formed(&after), found == 0);
+                assert!(found == 0 || after == store);
+                refused[12] += u64::from(found == 5);
             }
         }
     }
@@ -214,7 +233,7 @@ fn any_words_in_the_books_never_panic() {
         let sound = well_formed(&store);
         for call in one_of_each(&store) {
             let mut after = store.clone();
-            let number = model::call::number_of(&call.run(&mut after, &mut call.lent_bitmap()));
+            let number = model::call::number_of(&call.run(&mut after, &mut call.lent_bytes()));
             assert_eq!(number == 5, !sound);
             assert!(number == 0 || after == store);
             assert_eq!(well_formed(&after), sound);

@@ -29,10 +29,12 @@ fn main() {
         ("scan by a page", scan(Reader::Ro(1))),
         ("move LSE", Call::MoveLse { target: 0 }),
         ("purge", Call::Purge { partition: 0 }),
+        ("save", Call::Save { epoch: 4, lent: 24 }),
+        ("recover", Call::Recover { file: store.round_at(4).bytes() }),
     ];
     let books = books_of(&store.manager);
     for (name, one) in &list {
-        let (mut areas, mut bitmap) = (Areas::of(&store), one.lent_bitmap());
+        let (mut areas, mut bitmap) = (Areas::of(&store), one.lent_bytes());
         let (number, bytes, large) = counted(|| measured(one, &books, areas.lend(&mut bitmap)));
         assert_eq!(number, 0, "{name}");
         println!("{name:<15} {bytes:>7} bytes, {large} copies of {LARGE} or more");

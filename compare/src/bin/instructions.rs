@@ -20,7 +20,7 @@ const ROUNDS: u64 = 240;
 const STEPS: u64 = 400;
 
 fn one_call(place: &str, one: &Call, store: &Store, seed: u64) {
-    let (mut areas, mut bitmap) = (Areas::of(store), one.lent_bitmap());
+    let (mut areas, mut bitmap) = (Areas::of(store), one.lent_bytes());
     let books = books_of(&store.manager);
     let (number, bytes, _) = counted(|| measured(one, &books, areas.lend(&mut bitmap)));
     println!("{place} {} {number} {bytes} {seed}", NAMES[kind(one)]);
@@ -31,7 +31,7 @@ fn after_a_history(calls: &mut Calls) -> Store {
     let mut store = calls.first_store().0;
     for _ in 0..STEPS {
         let next = calls.next_call(&store);
-        let _ = next.run(&mut store, &mut next.lent_bitmap());
+        let _ = next.run(&mut store, &mut next.lent_bytes());
     }
     store
 }
@@ -39,7 +39,7 @@ fn after_a_history(calls: &mut Calls) -> Store {
 fn main() {
     let rounds = std::env::args().nth(1).and_then(|word| word.parse().ok()).unwrap_or(ROUNDS);
     for (place, store) in [("empty", empty()), ("short", laden(63, 8)), ("long", laden(3, 168))] {
-        for one in &each_call() {
+        for one in &each_call(&store) {
             one_call(place, one, &store, 0);
         }
     }

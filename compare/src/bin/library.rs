@@ -1,11 +1,11 @@
 //! Runs the proved store's calls, by its static library, beside the model: on stores that histories made, on random
 //! well-formed stores that no history made, on such stores with rows changed that no total counts, on stores spoilt in
 //! one field, and on areas of wrong lengths. Compared are the number, the values, the part that a purge answers with,
-//! and every word of the books, the areas and the bitmap at the end of each call.
+//! and every word of the books, the areas and the bitmap or output at the end of each call.
 
-use compare::{by_library, live_part, numbers, obeys_own_clearing, told, Totals};
+use compare::{by_library, live_part, numbers, obeys_own_clearing, told, Rounds, Totals};
 use model::call::Call;
-use model::check::difference;
+use model::check::{difference, NUMBERS};
 use model::histories::{Calls, PROFILES};
 use model::partition::Entry;
 use model::random::Rng;
@@ -20,40 +20,45 @@ const ROUNDS: u64 = 20_000;
 const CALLS: u64 = 12;
 
 /// How often each number was answered, how many rows the parts had that purges answered with, how many commits and
-/// rollbacks named a load, from how many scans by a load its own clearing hid rows, and what was met of totals.
+/// rollbacks named a load, from how many scans by a load its own clearing hid rows, and what was met of totals and of
+/// rounds.
 #[derive(Default)]
 struct Tally {
-    numbers: [u64; 11],
+    numbers: [u64; NUMBERS],
     part_rows: usize,
     named: u64,
     own_clearings: u64,
     totals: Totals,
+    rounds: Rounds,
 }
 
 /// Runs one call on both, and says where they differ.
 fn differs(one: &Call, store: &mut Store, tally: &mut Tally) -> Result<(), String> {
     let mut proved = store.clone();
-    let mut bitmap = one.lent_bitmap();
-    let mut expected_bitmap = bitmap.clone();
+    let mut bytes = one.lent_bytes();
+    let mut expected_bytes = bytes.clone();
     let before = store.manager;
-    let reply = by_library(one, &mut proved, &mut bitmap);
-    let answer = one.run(store, &mut expected_bitmap);
+    let reply = by_library(one, &mut proved, &mut bytes);
+    let answer = one.run(store, &mut expected_bytes);
     let expected = numbers(&answer);
-    tally.numbers[reply.number.min(10) as usize] += 1;
+    tally.numbers[reply.number.min(NUMBERS as u64 - 1) as usize] += 1;
     tally.part_rows += reply.count;
     if let Call::Commit { .. } | Call::Rollback { .. } = one {
         tally.named += u64::from(reply.second > 0);
     }
     tally.own_clearings += u64::from(reply.number == 0 && obeys_own_clearing(one, store));
     tally.totals.note(one, &before, &store.manager);
+    if expected.0 == 0 {
+        tally.rounds.note(one, expected.1, &store.manager);
+    }
     if told(&reply) != expected {
         return Err(format!("answers {:?}, and the model {expected:?}", told(&reply)));
     }
     if proved != *store {
         return Err(difference(&proved, store));
     }
-    if bitmap != expected_bitmap {
-        return Err("the bitmaps differ".to_string());
+    if bytes != expected_bytes {
+        return Err("the bitmaps or outputs differ".to_string());
     }
     let part = proved.rows.get(reply.from..reply.from + reply.count);
     if part != Some(live_part(&answer, store)) {
@@ -112,10 +117,10 @@ fn main() -> ExitCode {
         println!("no call was answered {number}: the comparison is too weak");
         return ExitCode::FAILURE;
     }
-    let Tally { numbers, part_rows, named, own_clearings, totals } = tally;
-    let met =
-        format!("{part_rows} rows in parts, {named} loads named, {own_clearings} scans with own clearings; {totals}");
-    if part_rows == 0 || named == 0 || own_clearings == 0 || totals.is_weak() {
+    let Tally { numbers, part_rows, named, own_clearings, totals, rounds: saved } = tally;
+    let met = format!("{part_rows} rows in parts, {named} loads named, {own_clearings} scans with own clearings");
+    let met = format!("{met}; {totals}; {saved}");
+    if part_rows == 0 || named == 0 || own_clearings == 0 || totals.is_weak() || saved.is_weak() {
         println!("{met}: the comparison is too weak");
         return ExitCode::FAILURE;
     }

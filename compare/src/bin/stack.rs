@@ -53,7 +53,7 @@ fn used(first: *const u64) -> usize {
 
 #[inline(never)]
 fn used_by(one: &Call, store: &Store) -> (usize, u64) {
-    let mut bitmap = one.lent_bitmap();
+    let mut bitmap = one.lent_bytes();
     let (books, mut areas) = (books_of(&store.manager), Areas::of(store));
     let first = paint();
     let number = measured(one, &books, areas.lend(&mut bitmap));
@@ -66,6 +66,8 @@ fn laid_down(kind: usize) -> usize {
         "append" => (3, size_of::<Reply>()),
         "clear" => (1, size_of::<Reply>()),
         "scan_rw" | "scan_ro" => (3, size_of::<Seen>()),
+        "save" => (2, size_of::<Seen>()),
+        "recover" => (1, size_of::<Reply>()),
         _ => (0, size_of::<Reply>()),
     };
     size_of::<Books>() + 8 * words + reply
@@ -94,7 +96,7 @@ fn greatest() -> [(usize, u64); KINDS] {
         for _ in 0..CALLS {
             let next = calls.next_call(if well_formed(&store) { &store } else { &other });
             note(&next, used_by(&next, &store));
-            let _ = next.run(&mut store, &mut next.lent_bitmap());
+            let _ = next.run(&mut store, &mut next.lent_bytes());
         }
     }
     all

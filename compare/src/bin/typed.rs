@@ -1,9 +1,10 @@
 //! Runs the calls of `nizgulk::Store` beside the model, on stores that histories made and on random and spoilt ones.
-//! Compared are the number, the values, the rows that a scan hands out, the part that a purge does, and every word of
-//! the store at the end of each call.
+//! Compared are the number, the values, the rows that a scan hands out, the part that a purge does, every byte of the
+//! output of a save, and every word of the store at the end of each call.
 
-use compare::{books_of, live_part, numbers, obeys_own_clearing, Areas, Totals};
+use compare::{books_of, live_part, numbers, obeys_own_clearing, Areas, Rounds, Totals};
 use model::call::{Answer, Call};
+use model::check::NUMBERS;
 use model::histories::{Calls, PROFILES};
 use model::partition::rows_of;
 use model::sound::well_formed;
@@ -27,8 +28,8 @@ fn closed(closed: Closed) -> Told {
     ((closed.lce.get(), closed.oldest.map_or(0, Epoch::get)), Vec::new())
 }
 
-/// What `nizgulk::Store` answers.
-fn typed(one: &Call, store: &mut nizgulk::Store) -> Result<Told, Refusal> {
+/// What `nizgulk::Store` answers. `output` is what a save is lent.
+fn typed(one: &Call, store: &mut nizgulk::Store, output: &mut [u8]) -> Result<Told, Refusal> {
     let value = match one {
         Call::New { start } => store.create(Epoch::new(*start)).map(|()| 0)?,
         Call::Begin => store.begin()?.get(),
@@ -52,18 +53,27 @@ fn typed(one: &Call, store: &mut nizgulk::Store) -> Result<Told, Refusal> {
             };
             return Ok(((scan.row_count() as u64, scan.len() as u64), scan.collect()));
         }
+        Call::Save { epoch, .. } => store.save(Epoch::new(*epoch), output)? as u64,
+        Call::Recover { file } => store.recover(file).map(|()| 0)?,
     };
     Ok(((value, 0), Vec::new()))
 }
 
-/// What the model answers. A scan of the crate's has a bitmap for every row.
-fn expected(one: &Call, store: &mut Store) -> Result<Told, u64> {
-    let mut bitmap = [0; BITMAP_MAX];
-    let answer = one.run(store, &mut bitmap);
+/// What is lent for the call. A scan of the crate's has a bitmap for every row.
+fn lent_to(one: &Call) -> Vec<u8> {
+    match one {
+        Call::Scan { .. } => vec![0; BITMAP_MAX],
+        _ => one.lent_bytes(),
+    }
+}
+
+/// What the model answers.
+fn expected(one: &Call, store: &mut Store, lent: &mut [u8]) -> Result<Told, u64> {
+    let answer = one.run(store, lent);
     let rows = match (one, &answer) {
         (Call::Scan { partition, .. }, Ok(Answer::Scanned(_))) => {
             let rows = rows_of(&store.manager.partitions.at[*partition as usize], &store.rows);
-            let shown = |at: usize| bitmap[at / 8] >> (at % 8) & 1 == 1;
+            let shown = |at: usize| lent[at / 8] >> (at % 8) & 1 == 1;
             rows.iter().enumerate().filter(|(at, _)| shown(*at)).map(|(_, row)| *row).collect()
         }
         _ => live_part(&answer, store).to_vec(),
@@ -81,33 +91,39 @@ fn typed_of(store: &Store) -> Option<nizgulk::Store> {
 }
 
 /// How often each number was answered, how many rows scans and purges handed out, how many commits and rollbacks named
-/// a load, from how many scans by a load its own clearing hid rows, and what was met of totals.
+/// a load, from how many scans by a load its own clearing hid rows, and what was met of totals and of rounds.
 #[derive(Default)]
 struct Tally {
-    numbers: [u64; 11],
+    numbers: [u64; NUMBERS],
     scanned: usize,
     purged: usize,
     named: u64,
     own_clearings: u64,
     totals: Totals,
+    rounds: Rounds,
 }
 
 /// Runs one call on both, and says where they differ.
 fn differs(one: &Call, proved: &mut nizgulk::Store, store: &mut Store, tally: &mut Tally) -> Result<(), String> {
-    let told = typed(one, proved).map_err(Refusal::number);
+    let (mut output, mut ought_output) = (lent_to(one), lent_to(one));
+    let told = typed(one, proved, &mut output).map_err(Refusal::number);
     let before = store.manager;
-    let ought = expected(one, store);
+    let ought = expected(one, store, &mut ought_output);
     tally.totals.note(one, &before, &store.manager);
     if told != ought {
         return Err(format!("answers {told:?}, and the model {ought:?}"));
+    }
+    if matches!(one, Call::Save { .. }) && output != ought_output {
+        return Err("leaves another output than the model".to_string());
     }
     if typed_of(store).as_ref() != Some(&*proved) {
         return Err("leaves another store than the model".to_string());
     }
     match (one, told) {
-        (_, Err(number)) => tally.numbers[number.min(10) as usize] += 1,
-        (one, Ok(((_, second), rows))) => {
+        (_, Err(number)) => tally.numbers[number as usize] += 1,
+        (one, Ok(((value, second), rows))) => {
             tally.numbers[0] += 1;
+            tally.rounds.note(one, value, &store.manager);
             tally.own_clearings += u64::from(obeys_own_clearing(one, store));
             match one {
                 Call::Scan { .. } => tally.scanned += rows.len(),
@@ -141,16 +157,15 @@ fn main() -> ExitCode {
             }
         }
     }
-    // 3 is not to be met: the crate's own bitmap is always long enough.
-    let met: Vec<bool> = tally.numbers.iter().map(|&count| count > 0).collect();
-    if met != [true, true, true, false, true, true, true, true, true, true, true] {
+    // 3 is met by saves alone: the crate's own bitmap is always long enough.
+    if tally.numbers.contains(&0) {
         println!("by number {:?}: the comparison is too weak", tally.numbers);
         return ExitCode::FAILURE;
     }
-    let Tally { numbers, scanned, purged, named, own_clearings, totals } = tally;
+    let Tally { numbers, scanned, purged, named, own_clearings, totals, rounds: saved } = tally;
     let rows = format!("{scanned} rows scanned, {purged} in parts");
-    let met = format!("{rows}, {named} loads named, {own_clearings} scans with own clearings; {totals}");
-    if scanned == 0 || purged == 0 || named == 0 || own_clearings == 0 || totals.is_weak() {
+    let met = format!("{rows}, {named} loads named, {own_clearings} scans with own clearings; {totals}; {saved}");
+    if scanned == 0 || purged == 0 || named == 0 || own_clearings == 0 || totals.is_weak() || saved.is_weak() {
         println!("{met}: the comparison is too weak");
         return ExitCode::FAILURE;
     }

@@ -1,16 +1,18 @@
 //! The cases at the edges: session lines, and lines of small letters that do what no session can (01, "At the edges", the
-//! refusals; 02, (iii)). Each small letter has at least two numbers.
+//! refusals; 02, (iii), (v)). Each small letter has at least two numbers.
 //!
 //! - `n s _`: made new at s.
 //! - `w field value`: a word of the store is overwritten (see `field`). Prints nothing.
 //! - `t who id lot bytes`: a scan by a load (0) or a page (1), lent so many of eight bytes of 165; prints all eight.
 //! - `p lot _`: a purge; `r` and the rows that it answers, after their count, are a line of their own.
+//! - `k epoch bytes`: a save, lent so many of 128 bytes of 165; prints the bytes it answers, then all that it was lent.
+//! - `v count byte ..`: recovery of a file of so many bytes, at most 128.
 //! - `g rows _`: begin, lent so many rows.
 //! - `f load lot count`: an append of so many rows, each 7.
 //! - `b count _`, `q count _`, `d load lot count`: so many begins, pages at 0, clearings; prints the last answer.
 //! - A line that starts with `#` is printed as it is.
 
-use model::call::{number_of, Answer, Call, BITMAP_FILL};
+use model::call::{number_of, Answer, Call, LENT_FILL};
 use model::refusal::Refusal;
 use model::session::{Session, LONGEST_LINE};
 use model::store::Store;
@@ -19,6 +21,8 @@ use std::io::{self, BufRead, Write};
 
 /// Bytes that a case's bitmap has, lent or not.
 const BYTES: usize = 8;
+/// Bytes that a file or an output may have.
+const FILE_MAX: u64 = 128;
 /// The rows of a filled batch.
 const ROW: u64 = 7;
 
@@ -90,7 +94,7 @@ fn edge(store: &mut Store, letter: u8, words: &[u64]) -> Vec<Line> {
             return Vec::new();
         }
         (b't', [who, id, lot, bytes]) => {
-            let mut bitmap = [BITMAP_FILL; BYTES];
+            let mut bitmap = [LENT_FILL; BYTES];
             let lent = &mut bitmap[..(*bytes as usize).min(BYTES)];
             let reader = if *who == 0 { Reader::Rw(*id) } else { Reader::Ro(*id) };
             let answer = store.scan(reader, *lot, lent);
@@ -109,6 +113,17 @@ fn edge(store: &mut Store, letter: u8, words: &[u64]) -> Vec<Line> {
             let mut rows = vec![part.len() as u64];
             rows.extend(part);
             return vec![(letter, vec![number, u64::from(rewritten)]), (b'r', rows)];
+        }
+        (b'k', [epoch, bytes]) if *bytes <= FILE_MAX => {
+            let mut out = vec![LENT_FILL; *bytes as usize];
+            let answer = store.save(*epoch, &mut out);
+            let mut all = vec![number_of(&answer), answer.unwrap_or(0)];
+            all.extend(out.iter().map(|&byte| u64::from(byte)));
+            all
+        }
+        (b'v', [count, bytes @ ..]) if *count <= FILE_MAX => {
+            let file: Vec<u8> = bytes[..*count as usize].iter().map(|&byte| byte as u8).collect();
+            vec![number_of(&store.recover(&file))]
         }
         (b'g', [rows, _]) => {
             let kept = store.rows.clone();

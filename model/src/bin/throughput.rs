@@ -9,6 +9,8 @@ use std::time::Instant;
 const RUNS: u64 = 9;
 const HISTORIES: u64 = 20;
 const CALLS: u64 = 2_000;
+/// Bytes that are enough for every bitmap and every output that a call is lent.
+const LENT: usize = 40_000;
 
 fn main() {
     println!("{:<16} {:>14} {:>14}   (calls a second)", "profile", "with test", "without test");
@@ -32,7 +34,7 @@ fn prepared(profile: Profile) -> Vec<Call> {
         list.push(Call::New { start: 1 });
         for _ in 0..CALLS {
             let call = calls.next_call(&store);
-            let _ = call.run(&mut store, &mut call.lent_bitmap());
+            let _ = call.run(&mut store, &mut call.lent_bytes());
             list.push(call);
         }
     }
@@ -45,15 +47,15 @@ fn rate(calls: &[Call], trusted: bool) -> f64 {
     for _ in 0..RUNS {
         let mut store = Store::new(1);
         store.trusted = trusted;
-        let mut bitmap = [0; 128];
+        let mut bytes = vec![0; LENT];
         let mut accepted = 0u64;
         let begun = Instant::now();
         for call in calls {
             let lent = match call {
-                Call::Scan { lent, .. } => *lent,
+                Call::Scan { lent, .. } | Call::Save { lent, .. } => *lent,
                 _ => 0,
             };
-            accepted += u64::from(call.run(&mut store, &mut bitmap[..lent]).is_ok());
+            accepted += u64::from(call.run(&mut store, &mut bytes[..lent]).is_ok());
         }
         let seconds = begun.elapsed().as_secs_f64();
         assert!(accepted > 0);
