@@ -1,6 +1,6 @@
 /* Nizgulk: an append-only snapshot-isolation store, for callers in C (C99 on) and C++ on x86-64. This header is the one
- * authority on the interface of the static library that `rt staticlib exports` leaves
- * (target/staticlib/libexports.a). "01" is the scope paper; its words stand in brackets beside the identifiers.
+ * authority on the interface of the static library that `rt staticlib exports` leaves (target/staticlib/libexports.a).
+ * "01" is the scope paper, "02" the paper of changes to it; their words stand in brackets beside the identifiers.
  *
  * The store is the caller's: the books (struct nizgulk_state), handed over by value, and two areas that are lent,
  * the entries and the rows. The library keeps nothing between two calls, allocates nothing, and calls nothing but
@@ -10,26 +10,28 @@
  * WHAT THE CALLER OWES, in every call:
  *
  * - Pointers. None is null, not even where its length is 0. `entries`, `rows` and `batch` are aligned to 8 bytes,
- *   `bitmap` to 1. A length counts elements, and all of them may be read, and written where the pointer is not to
- *   const.
+ *   `bitmap`, `out` and `file` to 1. A length counts elements, and all of them may be read, and written where the
+ *   pointer is not to const.
  * - No overlap. No two of the lent areas share a byte, and neither does the object that the reply goes to.
- * - One writer. Until a call returns, nobody else writes what is lent to it, and nobody reads what it may write.
- *   Calls that only read what they share, such as scans with a bitmap each, may run at the same time.
- * - The newest books. After a call the books are those in its reply, and those that were handed over are to be
- *   thrown away, whether it was accepted or refused. Older books may be sound by themselves, so that no call refuses
- *   them, but they no longer describe the areas. A scan changes no books and replies without them.
- * - One history. The store starts with an accepted nizgulk_create, and from then on nobody but these calls writes
- *   the books, the entries and the rows. Then no call is ever refused by 5, and what 01 promises of the rows shown
- *   holds. Other books, entries and rows may be handed over too: where they are not sound (01; for the totals see
- *   struct nizgulk_state) the call answers 5, and in no case is anything undefined.
+ * - One writer. Until a call returns, nobody else writes what is lent to it, and nobody reads what it may write. Calls
+ *   that only read what they share, such as scans with a bitmap each and saves with an output each, may run at the same
+ *   time.
+ * - The newest books. After a call the books are those in its reply, and those that were handed over are to be thrown
+ *   away, whether it was accepted or refused. Older books may be sound by themselves, so that no call refuses them, but
+ *   they no longer describe the areas. A scan and a save change no books and reply without them.
+ * - One history. The store starts with an accepted nizgulk_create or nizgulk_recover, and from then on nobody but these
+ *   calls writes the books, the entries and the rows. Then no call is ever refused by 5, and what 01 promises of the
+ *   rows shown holds. Other books, entries and rows may be handed over too: where they are not sound (01; for the
+ *   totals see struct nizgulk_state) the call answers 5, and in no case is anything undefined.
  * - Stack. There is as much of it left as docs/FIGURES.md has for the call.
  *
  * LENGTHS. `entries_len` is NIZGULK_ENTRIES_LENT and `rows_len` is NIZGULK_ROWS_LENT: nine areas of 64 entries, and
- * of 512 rows. Any other length is refused by 5. What the areas hold before nizgulk_create does not matter.
+ * of 512 rows. Any other length is refused by 5. What the areas hold before nizgulk_create or nizgulk_recover does not
+ * matter.
  *
  * REFUSALS. `number` is 0 where the call was accepted. Else it is the first of the call's refusals, in the order
  * listed at that call, that applies; then value, second, from and count are 0, the books in the reply are those
- * handed over, and nothing that was lent has changed: no row, no entry, no byte of a bitmap.
+ * handed over, and nothing that was lent has changed: no row, no entry, no byte of a bitmap or an output.
  *
  * The structs have no padding: every field is 8 bytes wide and they lie in the order written. tests/layout.c asserts
  * each size and place, and checks them against the library.
@@ -68,22 +70,29 @@ extern "C" {
 #define NIZGULK_BITMAP_BYTES(rows) (((rows) + 7) / 8)
 #define NIZGULK_BITMAP_MAX NIZGULK_BITMAP_BYTES(NIZGULK_ROWS_MAX)
 
-/* ---- 01's numbers: what `number` says in a reply. */
+/* The bytes of a checkpoint (02: round) that shows so many rows, and those that are enough for any save. */
+#define NIZGULK_CHECKPOINT_BYTES(rows) (8 + 2 * NIZGULK_PARTITIONS_MAX + 8 * (rows))
+#define NIZGULK_CHECKPOINT_MAX NIZGULK_CHECKPOINT_BYTES(NIZGULK_PARTITIONS_MAX * NIZGULK_ROWS_MAX)
+
+/* ---- The numbers of 01, and of 02 from 11 on: what `number` says in a reply. */
 
 enum nizgulk_number {
     NIZGULK_ACCEPTED = 0,
     /* from the input */
     NIZGULK_UNKNOWN_PARTITION = 1, /* the partition is above 7 */
     NIZGULK_NOT_OPEN = 2,          /* the epoch or ticket is not that of an open transaction (01: load, page) */
-    NIZGULK_SHORT_BITMAP = 3,      /* the bitmap has fewer bytes than the partition's rows need */
-    NIZGULK_OUT_OF_RANGE = 4,      /* starting epoch, page epoch or LSE target out of its range */
+    NIZGULK_SHORT_OUTPUT = 3,      /* the bitmap of a scan or the output of a save has fewer bytes than its rows need */
+    NIZGULK_SHORT_BITMAP = NIZGULK_SHORT_OUTPUT, /* its name before a save could meet it */
+    NIZGULK_OUT_OF_RANGE = 4,      /* starting epoch, page epoch, LSE target or the epoch to save out of its range */
     /* from the state */
     NIZGULK_UNSOUND = 5,      /* the store is not sound (01, and its totals), or a lent area has another length */
     NIZGULK_EXHAUSTED = 6,    /* begin: the last epoch is given out; begin_ro: the last ticket is */
     NIZGULK_TXNS_FULL = 7,    /* begin: 32 are open or waiting; begin_ro: 32 are open */
     NIZGULK_ROWS_FULL = 8,    /* more rows than the partition has left of 512 */
     NIZGULK_ENTRIES_FULL = 9, /* an entry is needed and the partition has 64 */
-    NIZGULK_BLOCKED = 10      /* the move of LSE is held (01) by an open page, or by the deps of an open load */
+    NIZGULK_BLOCKED = 10,     /* the move of LSE is held (01) by an open page, or by the deps of an open load */
+    /* from a file */
+    NIZGULK_CORRUPT = 11 /* a table of contents of the file is one that no save writes there */
 };
 
 /* ---- The books (01). A caller may read every field. It writes none. */
@@ -138,7 +147,7 @@ struct nizgulk_partitions {
 /* The deps of record i are `writers.at[i].deps` words from deps[NIZGULK_DEPS_MAX * i] on, rising; the others are 0.
  * totals[p] is the total of partition p: the milligrams of the rows that a read-only transaction at LCE would be shown,
  * added up, at most 2,199,023,255,040. A store in which a total differs from that sum is not sound. A commit and a roll
- * back move it; a purge leaves it; nizgulk_create sets all to 0. */
+ * back move it; a purge leaves it; nizgulk_create sets all to 0, and nizgulk_recover to what it brings. */
 struct nizgulk_state {
     struct nizgulk_clock clock;
     struct nizgulk_rw_txns writers;
@@ -173,7 +182,8 @@ struct nizgulk_reply {
     size_t count;
 };
 
-/* What a scan replies: the number, the rows of the partition, and how many of them are shown. */
+/* What a scan replies: the number, the rows of the partition, and how many of them are shown. What a save replies: the
+ * number, the bytes written, and 0. */
 struct nizgulk_seen {
     uint64_t number;
     uint64_t value;
@@ -284,6 +294,36 @@ struct nizgulk_reply nizgulk_advance_lse(struct nizgulk_state state, const struc
  * partition: rows[from] to rows[from + count - 1], until the next call that writes rows. */
 struct nizgulk_reply nizgulk_purge(struct nizgulk_state state, struct nizgulk_entry *entries, size_t entries_len,
                                    uint64_t *rows, size_t rows_len, uint64_t p);
+
+/* ---- Saving and recovery. A checkpoint (02: round) is a table of contents and then the rows, all low byte first:
+ *
+ *   bytes 0 to 7        its epoch
+ *   bytes 8 to 23       how many rows it has of each partition, 0 to 7, in 2 bytes each
+ *   bytes 24 and on     these rows, partition by partition, in 8 bytes each
+ *
+ * Checkpoints may follow one another in a file, epochs never falling, and the file may be cut after any byte. To a file
+ * that was cut nothing may be appended, as what was cut would go on with it: after a recovery another file is begun,
+ * with a save at LCE. */
+
+/* Saves all partitions as a read-only transaction (01: page) at `epoch`, from LSE to LCE, would be shown them; here 0
+ * is epoch 0, and not LCE. An open transaction changes nothing of it. Writes NIZGULK_CHECKPOINT_BYTES(rows shown) bytes
+ * at the front of `out`, and no byte behind these.
+ * Refusals, in this order: 5, 4 (`epoch` is not from LSE to LCE), 3 (`out` has fewer bytes).
+ * Answers how many bytes were written in `value`. */
+struct nizgulk_seen nizgulk_save(struct nizgulk_state state, const struct nizgulk_entry *entries, size_t entries_len,
+                                 const uint64_t *rows, size_t rows_len, uint8_t *out, size_t out_len, uint64_t epoch);
+
+/* Recovery: the store becomes what the last whole checkpoint of `file` holds. With its epoch e: EC is e + 1, LCE and
+ * LSE are e, nothing is open, the next ticket is 1, partition p lies in area p, and where it has rows it has one entry,
+ * of epoch e; the totals are of these rows. Without a whole checkpoint the store is made new at 1. It does not look at
+ * `state` (hand over zeros) nor into the areas, and writes the rows and the entries that it brings and no other word. A
+ * history starts with it, as with nizgulk_create, in which the rows are those of a committed transaction e.
+ * Refusals, in this order: 5 (only for the lengths), 11 (a table of contents that is whole, even if its rows are cut,
+ * has more than NIZGULK_ROWS_MAX rows of a partition, an epoch above NIZGULK_LAST_EPOCH or below that of the checkpoint
+ * before, or epoch 0 and rows; nothing of such a file is taken).
+ * Answers no value. */
+struct nizgulk_reply nizgulk_recover(struct nizgulk_state state, struct nizgulk_entry *entries, size_t entries_len,
+                                     uint64_t *rows, size_t rows_len, const uint8_t *file, size_t file_len);
 
 #ifdef __cplusplus
 }

@@ -2,7 +2,8 @@
  * width, in bytes. Checked where it is run, against the library: a history that leaves another number in almost every
  * word of the books, compared word by word with books written here by the names of their fields; that the library reads
  * each of these words; every limit from both sides; every refusal; what a load is shown that clears; the totals, and
- * which bits of the rows they hold the store to. It ends with status 1 where something differs. */
+ * which bits of the rows they hold the store to; what a save writes, byte by byte, and what a recovery makes of these
+ * bytes, cut after each of them. It ends with status 1 where something differs. */
 #include "nizgulk.h"
 
 #include <stdio.h>
@@ -78,6 +79,7 @@ FIELD(nizgulk_seen, value, 8, 8);
 FIELD(nizgulk_seen, second, 16, 8);
 
 FACT(NIZGULK_ROWS_LENT == 4608 && NIZGULK_ENTRIES_LENT == 576 && NIZGULK_BITMAP_MAX == 64);
+FACT(NIZGULK_CHECKPOINT_BYTES(0) == 24 && NIZGULK_CHECKPOINT_MAX == 32792);
 
 /* The store, with an element more than is lent, and what it is to be. */
 static struct nizgulk_entry entries[NIZGULK_ENTRIES_LENT + 1], want_entries[NIZGULK_ENTRIES_LENT + 1];
@@ -270,7 +272,7 @@ static void scans(void)
     const uint8_t of_page[4] = {0x1f, 0, 0, 0xa5}, of_load[4] = {0x1f, 0x1e, 0, 0xa5};
     uint8_t bitmap[4] = {0xa5, 0xa5, 0xa5, 0xa5};
     struct nizgulk_seen seen = nizgulk_scan_ro(want, LENT, bitmap, 2, 4, 2);
-    is("a scan into 2 bytes", seen.number, NIZGULK_SHORT_BITMAP);
+    is("a scan into 2 bytes", seen.number, NIZGULK_SHORT_OUTPUT);
     is("its values", seen.value + seen.second, 0);
     is("its first byte", bitmap[0], 0xa5);
     seen = nizgulk_scan_ro(want, LENT, bitmap, 4, 4, 2);
@@ -490,6 +492,177 @@ static void totals(void)
     weighs("the greatest total", UINT64_C(2199023255040), NIZGULK_ACCEPTED);
 }
 
+/* What the two saves below write: at 6001 two rows of partition 0 and one of 7; at 6002 another one of 0, which was
+ * cleared, and the same of 7. */
+static const uint8_t saved[88] = {
+    0x71, 0x17, 0, 0, 0, 0, 0, 0, 2, 0, 0, 0, 0, 0, 0, 0, 0, 0, 0, 0, 0, 0, 1, 0, /* 6001: 2 and 1 rows */
+    1, 2, 3, 4, 5, 6, 7, 8,                                                       /* partition 0 */
+    5, 0, 0, 0, 0, 0, 0, 0,                                                       /* and its second row */
+    0xff, 0xff, 0xff, 0xff, 0xff, 0xff, 0xff, 0xff,                               /* partition 7 */
+    0x72, 0x17, 0, 0, 0, 0, 0, 0, 1, 0, 0, 0, 0, 0, 0, 0, 0, 0, 0, 0, 0, 0, 1, 0, /* 6002: 1 and 1 rows */
+    9, 0, 0, 0, 0, 0, 0, 0x80,                                                    /* partition 0 */
+    0xff, 0xff, 0xff, 0xff, 0xff, 0xff, 0xff, 0xff,                               /* partition 7 */
+};
+#define FIRST 48 /* bytes of the first save */
+
+/* A save into `lent` of 60 bytes answers `number`, writes `count` bytes of `saved` from `from` on, and no more. */
+static void saves(const char *what, uint64_t epoch, size_t lent, uint64_t number, size_t from, size_t count)
+{
+    uint8_t out[60], due[60];
+    struct nizgulk_seen seen;
+    memset(out, 0xa5, sizeof out);
+    memset(due, 0xa5, sizeof due);
+    memcpy(due, saved + from, count);
+    seen = nizgulk_save(reply.state, LENT, out, lent, epoch);
+    is(what, seen.number, number);
+    is(what, seen.value, count);
+    is(what, seen.second, 0);
+    is(what, memcmp(out, due, sizeof out) != 0, 0);
+}
+
+/* What a recovery leaves of a store whose rows and entries are 0xa5 in all bytes: made new at 1, or the lots of the
+ * first save, or of the second. */
+static void recovered_to(int round)
+{
+    size_t p;
+    memset(&want, 0, sizeof want);
+    memset(want_entries, 0xa5, sizeof want_entries);
+    memset(want_rows, 0xa5, sizeof want_rows);
+    for (p = 0; p < NIZGULK_PARTITIONS_MAX; p++) {
+        want.partitions.at[p].area = p;
+    }
+    want.partitions.spare = 8;
+    want.readers.next = 1;
+    want.clock.lce = want.clock.lse = round == 0 ? 0 : 6000 + (uint64_t)round;
+    want.clock.ec = want.clock.lce + 1;
+    if (round == 0) {
+        return;
+    }
+    want_rows[0] = round == 1 ? UINT64_C(0x0807060504030201) : UINT64_C(0x8000000000000009);
+    if (round == 1) {
+        want_rows[1] = 5;
+    }
+    want_rows[7 * NIZGULK_ROWS_MAX] = UINT64_MAX;
+    want.totals[0] = round == 1 ? UINT64_C(0x04030201) + 5 : 9;
+    want.totals[7] = UINT64_C(0xffffffff);
+    for (p = 0; p < NIZGULK_PARTITIONS_MAX; p += 7) {
+        want.partitions.at[p].rows = p == 0 && round == 1 ? 2 : 1;
+        want.partitions.at[p].entries = 1;
+        want_entries[p * NIZGULK_ENTRIES_MAX].epoch = want.clock.lce;
+        want_entries[p * NIZGULK_ENTRIES_MAX].end = want.partitions.at[p].rows;
+        want_entries[p * NIZGULK_ENTRIES_MAX].mark = 0;
+    }
+}
+
+static void recover(const uint8_t *file, size_t length, uint64_t number)
+{
+    memset(entries, 0xa5, sizeof entries);
+    memset(rows, 0xa5, sizeof rows);
+    reply = nizgulk_recover(reply.state, LENT, file, length);
+    told("recover", number, 0);
+    is("what a recovery hands out", reply.from + reply.count, 0);
+}
+
+static void left_by_recovery(void)
+{
+    same("books", &reply.state, &want, sizeof want);
+    same("entries", entries, want_entries, sizeof entries);
+    same("rows", rows, want_rows, sizeof rows);
+}
+
+/* A file that differs from `saved` in two bytes from `at` on, in the table of contents that begins at `from`, is
+ * refused once that table is whole, be it cut behind it or not; nothing of it is taken. */
+static void corrupt(const char *what, size_t from, size_t at, uint8_t low, uint8_t high)
+{
+    uint8_t file[sizeof saved];
+    size_t cut;
+    memcpy(file, saved, sizeof saved);
+    file[at] = low;
+    file[at + 1] = high;
+    printf("corrupt: %s\n", what);
+    for (cut = from; cut <= sizeof saved; cut++) {
+        recover(file, cut, cut < from + 24 ? NIZGULK_ACCEPTED : NIZGULK_CORRUPT);
+        recovered_to(from < FIRST ? 0 : 1);
+        if (cut >= from + 24) {
+            memset(want_entries, 0xa5, sizeof want_entries);
+            memset(want_rows, 0xa5, sizeof want_rows);
+        }
+        left_by_recovery();
+    }
+}
+
+/* Saves, and recoveries of what they wrote. */
+static void checkpoints(void)
+{
+    const uint64_t two[2] = {UINT64_C(0x0807060504030201), 5}, top = UINT64_MAX, other = UINT64_C(0x8000000000000009);
+    static const uint8_t nothing[24] = {0}; /* a checkpoint of epoch 0 */
+    uint8_t last[24] = {0xff, 0xff, 0xff, 0x7f};
+    size_t cut;
+    reply = nizgulk_create(reply.state, LENT, 6001);
+    told("making new", NIZGULK_ACCEPTED, 0);
+    reply = nizgulk_begin(reply.state, LENT);
+    told("begin", NIZGULK_ACCEPTED, 6001);
+    reply = nizgulk_append(reply.state, LENT, two, 2, 6001, 0);
+    told("append", NIZGULK_ACCEPTED, 2);
+    reply = nizgulk_append(reply.state, LENT, &top, 1, 6001, 7);
+    told("append", NIZGULK_ACCEPTED, 1);
+    saves("a save at an open load", 6001, 60, NIZGULK_OUT_OF_RANGE, 0, 0);
+    reply = nizgulk_commit(reply.state, LENT, 6001);
+    told("commit", NIZGULK_ACCEPTED, 6001);
+    reply = nizgulk_begin(reply.state, LENT);
+    told("begin", NIZGULK_ACCEPTED, 6002);
+    reply = nizgulk_clear(reply.state, LENT, 6002, 0);
+    told("clear", NIZGULK_ACCEPTED, 2);
+    reply = nizgulk_append(reply.state, LENT, &other, 1, 6002, 0);
+    told("append", NIZGULK_ACCEPTED, 3);
+    saves("a save beside an open load", 6001, 60, NIZGULK_ACCEPTED, 0, FIRST);
+    reply = nizgulk_commit(reply.state, LENT, 6002);
+    told("commit", NIZGULK_ACCEPTED, 6002);
+    saves("a save below LCE", 6001, 60, NIZGULK_ACCEPTED, 0, FIRST);
+    saves("a save at LCE", 6002, 60, NIZGULK_ACCEPTED, FIRST, sizeof saved - FIRST);
+    saves("a save into just enough", 6002, sizeof saved - FIRST, NIZGULK_ACCEPTED, FIRST, sizeof saved - FIRST);
+    saves("a save into a byte less", 6002, sizeof saved - FIRST - 1, NIZGULK_SHORT_OUTPUT, 0, 0);
+    saves("a save into nothing", 6002, 0, NIZGULK_SHORT_OUTPUT, 0, 0);
+    saves("a save above LCE", 6003, 0, NIZGULK_OUT_OF_RANGE, 0, 0);
+    saves("a save below LSE", 5999, 0, NIZGULK_OUT_OF_RANGE, 0, 0);
+    saves("a save at 0 with LSE above it", 0, 60, NIZGULK_OUT_OF_RANGE, 0, 0);
+    reply.state.totals[0]++;
+    saves("a save of an unsound store", 6003, 0, NIZGULK_UNSOUND, 0, 0);
+    reply.state = before;
+
+    for (cut = 0; cut <= sizeof saved; cut++) {
+        recover(saved, cut, NIZGULK_ACCEPTED);
+        recovered_to(cut < FIRST ? 0 : cut < sizeof saved ? 1 : 2);
+        left_by_recovery();
+    }
+    saves("a save of what was recovered", 6002, 60, NIZGULK_ACCEPTED, FIRST, sizeof saved - FIRST);
+    reply = nizgulk_begin(reply.state, LENT);
+    told("the first load after a recovery", NIZGULK_ACCEPTED, 6003);
+    reply = nizgulk_begin_ro(reply.state, LENT, 0);
+    told("the first page after a recovery", NIZGULK_ACCEPTED, NIZGULK_FIRST_TICKET);
+
+    recover(nothing, sizeof nothing, NIZGULK_ACCEPTED);
+    recovered_to(0);
+    left_by_recovery();
+    recover(last, sizeof last, NIZGULK_ACCEPTED);
+    is("EC after the last epoch", reply.state.clock.ec, NIZGULK_LAST_EPOCH + 1);
+    reply = nizgulk_begin(reply.state, LENT);
+    told("a load after the last epoch", NIZGULK_EXHAUSTED, 0);
+    last[3] = 0x80;
+    recover(last, sizeof last, NIZGULK_CORRUPT);
+    reply = nizgulk_recover(reply.state, entries, NIZGULK_ENTRIES_LENT - 1, rows, NIZGULK_ROWS_LENT, last, 24);
+    told("a recovery with an entry fewer", NIZGULK_UNSOUND, 0);
+    reply = nizgulk_recover(reply.state, entries, NIZGULK_ENTRIES_LENT, rows, NIZGULK_ROWS_LENT + 1, saved, 88);
+    told("a recovery with a row more", NIZGULK_UNSOUND, 0);
+
+    corrupt("513 rows", 0, 8, 1, 2);
+    corrupt("513 rows of the last partition", FIRST, FIRST + 22, 1, 2);
+    corrupt("an epoch of 33 bits", 0, 4, 1, 0);
+    corrupt("an epoch of 64 bits", FIRST, FIRST + 6, 0, 0x80);
+    corrupt("an epoch below the one before", FIRST, FIRST, 0x70, 0x17);
+    corrupt("epoch 0 and rows", 0, 0, 0, 0);
+}
+
 static void bytes_of(const char *what, size_t bytes)
 {
     printf("bytes of %-24s %6lu\n", what, (unsigned long)bytes);
@@ -509,6 +682,7 @@ int main(void)
     closes();
     reload();
     totals();
+    checkpoints();
     bytes_of("the books", sizeof want);
     bytes_of("the entries", sizeof entries - sizeof *entries);
     bytes_of("the rows", sizeof rows - sizeof *rows);
@@ -516,6 +690,7 @@ int main(void)
     bytes_of("a reply", sizeof reply);
     bytes_of("a reply to a scan", sizeof(struct nizgulk_seen));
     bytes_of("a bitmap, at most", NIZGULK_BITMAP_MAX);
+    bytes_of("a checkpoint, at most", NIZGULK_CHECKPOINT_MAX);
     printf("%d checks, %d failed\n", checks, failures);
     return failures != 0;
 }

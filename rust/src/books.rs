@@ -131,7 +131,7 @@ pub struct Books {
 layout!(Books, BOOKS_BYTES, { clock: 0, writers: 24, deps: 800, readers: 8_736, partitions: 9_264, totals: 9_464 });
 
 impl Books {
-    /// Books whose words are all 0. They are unsound, so that every call but making new is refused by 5.
+    /// Books whose words are all 0. They are unsound, so that every call but making new and recovery is refused by 5.
     pub const BLANK: Books = Books {
         clock: Clock { ec: 0, lce: 0, lse: 0 },
         writers: RwTxns { at: [RwTxn { epoch: 0, waiting: 0, deps: 0 }; WRITERS_MAX], count: 0 },

@@ -1,6 +1,7 @@
 //! Nizgulk in safe Rust: an append-only snapshot-isolation store over eight partitions (01: lots), with read-write
 //! transactions (loads) that land whole or not at all and read-only ones (pages) that never change. "01" is the scope
-//! paper of the store; its word stands beside the field's term wherever the two differ.
+//! paper of the store and "02" the paper of changes to it; their word stands beside the field's term wherever the two
+//! differ.
 //!
 //! The calls are those of a static library that is written and proved in Rattle. This crate adds types and nothing
 //! else: it has no dependencies, no heap and no `std`. Before it is built, `rt staticlib exports` proves and makes
@@ -61,7 +62,7 @@ pub use store::{Closed, Purged, Store};
 /// ```
 pub mod calls {
     pub use crate::raw::{
-        advance_lse, append, begin, begin_ro, clear, commit, create, end_ro, purge, roll_back, scan_ro, scan_rw, Reply,
-        Seen,
+        advance_lse, append, begin, begin_ro, clear, commit, create, end_ro, purge, recover, roll_back, save, scan_ro,
+        scan_rw, Reply, Seen,
     };
 }

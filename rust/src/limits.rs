@@ -26,5 +26,9 @@ pub const ROWS_LENT: usize = AREAS_MAX * ROWS_MAX;
 pub const ENTRIES_LENT: usize = AREAS_MAX * ENTRIES_MAX;
 /// Bytes of a bitmap that is long enough for every scan: a bit a row.
 pub const BITMAP_MAX: usize = ROWS_MAX / 8;
+/// Bytes of the table of contents that a checkpoint (02: round) begins with.
+pub const CONTENTS_BYTES: usize = 8 + 2 * PARTITIONS_MAX;
+/// Bytes that are enough for every save: the table of contents, and 8 a row.
+pub const CHECKPOINT_MAX: usize = CONTENTS_BYTES + 8 * PARTITIONS_MAX * ROWS_MAX;
 /// Words of a whole [`Store`](crate::Store): the books, the entries, the rows.
 pub const STORE_WORDS: usize = (crate::books::BOOKS_BYTES + ENTRIES_LENT * crate::books::ENTRY_BYTES) / 8 + ROWS_LENT;

@@ -26,15 +26,15 @@ pub struct Reply {
 }
 layout!(Reply, 9_568, { books: 0, number: 9_528, value: 9_536, second: 9_544, from: 9_552, count: 9_560 });
 
-/// The reply to a scan, which leaves the books as they were (crate exports: `Seen`).
+/// The reply to a scan or a save, which leave the books as they were (crate exports: `Seen`).
 #[repr(C)]
 #[derive(Clone, Copy, Debug, PartialEq, Eq)]
 pub struct Seen {
     /// 0 if it was accepted, else 01's number of the refusal.
     pub number: u64,
-    /// How many rows the partition has; 0 if it was refused.
+    /// Of a scan: how many rows the partition has; of a save: how many bytes were written. 0 if it was refused.
     pub value: u64,
-    /// How many of them are shown; 0 if it was refused.
+    /// Of a scan: how many of the rows are shown; 0 of a save, and if it was refused.
     pub second: u64,
 }
 layout!(Seen, 24, { number: 0, value: 8, second: 16 });
@@ -147,6 +147,25 @@ extern "C" {
         rows: *mut u64,
         rows_len: usize,
         p: u64,
+    ) -> Reply;
+    fn nizgulk_save(
+        state: Books,
+        entries: *const Entry,
+        entries_len: usize,
+        rows: *const u64,
+        rows_len: usize,
+        out: *mut u8,
+        out_len: usize,
+        epoch: u64,
+    ) -> Seen;
+    fn nizgulk_recover(
+        state: Books,
+        entries: *mut Entry,
+        entries_len: usize,
+        rows: *mut u64,
+        rows_len: usize,
+        file: *const u8,
+        file_len: usize,
     ) -> Reply;
 }
 
@@ -262,6 +281,28 @@ pub fn purge(books: &Books, entries: &mut [Entry], rows: &mut [u64], partition: 
     let (rs, rs_len) = (rows.as_mut_ptr(), rows.len());
     // Safety: as said above.
     unsafe { nizgulk_purge(*books, es, es_len, rs, rs_len, partition) }
+}
+
+/// Saves all partitions as a read-only transaction (01: page) at an epoch, LSE to LCE, is shown them: a checkpoint (02:
+/// round) at the front of `out`, of which later bytes stay. Here 0 is epoch 0. Value: how many bytes were written.
+/// Refusals, in this order: 5, 4, 3.
+#[inline]
+pub fn save(books: &Books, entries: &[Entry], rows: &[u64], out: &mut [u8], epoch: u64) -> Seen {
+    let (es, es_len) = (entries.as_ptr(), entries.len());
+    let (rs, rs_len) = (rows.as_ptr(), rows.len());
+    // Safety: as said above.
+    unsafe { nizgulk_save(*books, es, es_len, rs, rs_len, out.as_mut_ptr(), out.len(), epoch) }
+}
+
+/// Makes a store what the last whole checkpoint (02: round) of a file holds, or new at 1 if there is none. It reads no
+/// word of the books, and of rows and entries it writes those that it brings. Refusals, in this order: 5 (the lengths),
+/// 11.
+#[inline]
+pub fn recover(books: &Books, entries: &mut [Entry], rows: &mut [u64], file: &[u8]) -> Reply {
+    let (es, es_len) = (entries.as_mut_ptr(), entries.len());
+    let (rs, rs_len) = (rows.as_mut_ptr(), rows.len());
+    // Safety: as said above.
+    unsafe { nizgulk_recover(*books, es, es_len, rs, rs_len, file.as_ptr(), file.len()) }
 }
 
 // A store and its words have one layout: `repr(C)`, every field a number of 8 bytes, nothing between them.

@@ -1,18 +1,20 @@
-//! Why a call is refused, with 01's numbers.
+//! Why a call is refused, with the numbers of 01 and 02.
 
 use core::fmt;
 
-/// Why a call is refused. The numbers are 01's, and a call that could be refused for several of these reasons answers
-/// the first of them in the order 5, 1, 2, 4, 3, 6, 7, 8, 9, 10. A refused call has changed nothing.
+/// Why a call is refused. The numbers are 01's, and 02's from 11 on. A call that could be refused for several of these
+/// reasons answers the first of them in the order 5, 1, 2, 4, 3, 6, 7, 8, 9, 10, 11. A refused call has changed
+/// nothing.
 #[derive(Clone, Copy, Debug, PartialEq, Eq, Hash)]
 pub enum Refusal {
     /// 1: there is no such partition (01: lot above 7).
     UnknownPartition = 1,
     /// 2: no open transaction has this epoch or ticket (01: load, page).
     NotOpen = 2,
-    /// 3: the bitmap is shorter than the partition's rows need.
-    ShortBitmap = 3,
-    /// 4: the starting epoch, a read-only transaction's epoch (01: page) or LSE's target is out of range.
+    /// 3: the output is too short: the bitmap of a scan for the partition's rows, or that of a save for the rows shown.
+    ShortOutput = 3,
+    /// 4: the starting epoch, a read-only transaction's epoch (01: page), LSE's target or the epoch to save is out of
+    /// range.
     OutOfRange = 4,
     /// 5: the words of the store do not fit together (01: unsound), or an area has a wrong length.
     Unsound = 5,
@@ -26,14 +28,21 @@ pub enum Refusal {
     EntriesFull = 9,
     /// 10: an open transaction still needs what is older than LSE's target (01: held).
     Blocked = 10,
+    /// 11: a table of contents of the file is one that no save writes there: more than 512 rows of a partition, an
+    /// epoch above the last or below the one before, or epoch 0 and rows.
+    Corrupt = 11,
 }
 
 impl Refusal {
+    /// The name of [`Refusal::ShortOutput`] before a save could meet it.
+    #[allow(non_upper_case_globals)]
+    pub const ShortBitmap: Refusal = Refusal::ShortOutput;
+
     /// All of them, by their numbers.
-    pub const ALL: [Refusal; 10] = [
+    pub const ALL: [Refusal; 11] = [
         Refusal::UnknownPartition,
         Refusal::NotOpen,
-        Refusal::ShortBitmap,
+        Refusal::ShortOutput,
         Refusal::OutOfRange,
         Refusal::Unsound,
         Refusal::Exhausted,
@@ -41,9 +50,10 @@ impl Refusal {
         Refusal::RowsFull,
         Refusal::EntriesFull,
         Refusal::Blocked,
+        Refusal::Corrupt,
     ];
 
-    /// 01's number, 1 to 10.
+    /// Its number, 1 to 11.
     ///
     /// ```
     /// assert_eq!(nizgulk::Refusal::RowsFull.number(), 8);
@@ -52,7 +62,7 @@ impl Refusal {
         self as u64
     }
 
-    /// The refusal of this number; none of 0, which is accepted, or of a number above 10.
+    /// The refusal of this number; none of 0, which is accepted, or of a number above 11.
     pub fn from_number(number: u64) -> Option<Refusal> {
         Refusal::ALL.into_iter().find(|refusal| refusal.number() == number)
     }
@@ -60,7 +70,7 @@ impl Refusal {
     /// What a reply of this number says: 0 is accepted.
     ///
     /// # Panics
-    /// On a number above 10. The proved calls answer none, so the library that was linked is not theirs.
+    /// On a number above 11. The proved calls answer none, so the library that was linked is not theirs.
     pub(crate) fn check(number: u64) -> Result<(), Refusal> {
         match (number, Refusal::from_number(number)) {
             (0, _) => Ok(()),
@@ -75,7 +85,7 @@ impl fmt::Display for Refusal {
         let why = match self {
             Refusal::UnknownPartition => "there is no such partition",
             Refusal::NotOpen => "no open transaction has this epoch or ticket",
-            Refusal::ShortBitmap => "the bitmap is shorter than the rows need",
+            Refusal::ShortOutput => "the output is shorter than the rows need",
             Refusal::OutOfRange => "the epoch is out of range",
             Refusal::Unsound => "the store is unsound, or an area has a wrong length",
             Refusal::Exhausted => "no epoch or ticket is left",
@@ -83,6 +93,7 @@ impl fmt::Display for Refusal {
             Refusal::RowsFull => "the partition has not so many rows left",
             Refusal::EntriesFull => "the partition has no entry left",
             Refusal::Blocked => "an open transaction needs what is older",
+            Refusal::Corrupt => "the file has a table of contents that no save wrote",
         };
         write!(f, "refused, {}: {why}", self.number())
     }

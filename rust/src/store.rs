@@ -10,7 +10,7 @@ use core::fmt;
 
 /// A store: the books, and the areas of entries and of rows that the calls are lent. No heap, no global state.
 ///
-/// It has 60,216 bytes, and a call uses up to 49,968 bytes of stack, the books and the reply included (`tools/stack`,
+/// It has 60,216 bytes, and a call uses up to 64,504 bytes of stack, the books and the reply included (`tools/stack`,
 /// built for release). [`Store::new`] hands a store over by value, which a small stack may not bear. To place one
 /// elsewhere from the start:
 ///
@@ -66,7 +66,8 @@ pub struct Purged<'a> {
 }
 
 impl Store {
-    /// A store whose words are all 0. It is unsound: every call but [`Store::create`] is refused by 5.
+    /// A store whose words are all 0. It is unsound: every call but [`Store::create`] and [`Store::recover`] is refused
+    /// by 5.
     pub const fn blank() -> Store {
         Store { books: Books::BLANK, entries: [Entry::BLANK; ENTRIES_LENT], rows: [0; ROWS_LENT] }
     }
@@ -91,6 +92,48 @@ impl Store {
     /// stay as words that nothing shows. Refusal: 4.
     pub fn create(&mut self, start: Epoch) -> Result<(), Refusal> {
         let reply = raw::create(&self.books, &self.entries, &self.rows, start.get());
+        self.keep(&reply).map(|_| ())
+    }
+
+    /// A store recovered from a file of saves, as by [`Store::recover`]. Refusal: 11.
+    pub fn recovered(file: &[u8]) -> Result<Store, Refusal> {
+        let mut store = Store::blank();
+        store.recover(file)?;
+        Ok(store)
+    }
+
+    /// Makes the store what the last whole checkpoint (02: round) of a file holds, whatever its words were: its rows
+    /// are those of a committed transaction, EC is one above the checkpoint's epoch, and LCE and LSE are at it; no
+    /// transaction is open, and the next ticket is 1. Without a whole checkpoint it is made new at 1. The file may have
+    /// been cut after whichever byte; then nothing may be appended to it any more, and another is begun, with a save at
+    /// LCE. Refusal: 11.
+    ///
+    /// ```
+    /// use nizgulk::{limits::CHECKPOINT_MAX, Epoch, Refusal, Store};
+    /// let mut store = Store::new(Epoch::FIRST)?;
+    /// let (mut file, mut length) = (vec![0; 2 * CHECKPOINT_MAX], 0);
+    /// for rows in [&[10, 11][..], &[20]] {
+    ///     let load = store.begin()?;
+    ///     store.append(load, 0, rows)?;
+    ///     store.commit(load)?;
+    ///     length += store.save(store.lce(), &mut file[length..])?;
+    /// }
+    /// let shown = |file: &[u8]| {
+    ///     let mut store = Store::recovered(file)?;
+    ///     let page = store.begin_ro(None)?;
+    ///     Ok::<Vec<u64>, Refusal>(store.scan(page, 0)?.collect())
+    /// };
+    /// assert_eq!(shown(&file[..length])?, [10, 11, 20]);
+    /// // Cut within the second save, it is the first; cut within that, it is nothing.
+    /// assert_eq!(shown(&file[..length - 1])?, [10, 11]);
+    /// assert_eq!(shown(&file[..20])?, []);
+    /// // A file whose epochs fall is not one that saves wrote.
+    /// file[0] = 9;
+    /// assert_eq!(store.recover(&file[..length]), Err(Refusal::Corrupt));
+    /// # Ok::<(), Refusal>(())
+    /// ```
+    pub fn recover(&mut self, file: &[u8]) -> Result<(), Refusal> {
+        let reply = raw::recover(&self.books, &mut self.entries, &mut self.rows, file);
         self.keep(&reply).map(|_| ())
     }
 
@@ -303,6 +346,36 @@ impl Store {
         Ok(Purged { rewritten, rows: &self.rows[reply.from..reply.from + reply.count] })
     }
 
+    /// Saves all partitions as a read-only transaction (01: page) at an epoch, LSE to LCE, is shown them: a checkpoint
+    /// (02: round) at the front of `out`. Answers how many bytes were written; later bytes stay. It is a table of
+    /// contents, the epoch in 8 bytes and how many rows it has of each partition in 2 each, and then these rows,
+    /// partition by partition, in 8 each, all low byte first. [`CHECKPOINT_MAX`](crate::limits::CHECKPOINT_MAX) bytes
+    /// are always enough. Checkpoints may follow one another in a file, epochs never falling: [`Store::recover`] goes
+    /// by the last that is whole. Refusals: 5, 4, 3.
+    ///
+    /// ```
+    /// use nizgulk::{Epoch, Refusal, Store};
+    /// let mut store = Store::new(Epoch::FIRST)?;
+    /// let load = store.begin()?;
+    /// store.append(load, 7, &[0x1234])?;
+    /// store.commit(load)?;
+    /// let mut out = [0xa5; 40];
+    /// assert_eq!(store.save(load, &mut out)?, 32);
+    /// assert_eq!(out[..8], [1, 0, 0, 0, 0, 0, 0, 0]);
+    /// assert_eq!(out[8..24], [0, 0, 0, 0, 0, 0, 0, 0, 0, 0, 0, 0, 0, 0, 1, 0]);
+    /// assert_eq!(out[24..32], [0x34, 0x12, 0, 0, 0, 0, 0, 0]);
+    /// assert_eq!(out[32..], [0xa5; 8]);
+    /// assert_eq!(store.save(load, &mut out[..31]), Err(Refusal::ShortOutput));
+    /// // Epoch 0 is meant here as it stands, and not LCE.
+    /// assert_eq!(store.save(Epoch::new(0), &mut out)?, 24);
+    /// # Ok::<(), Refusal>(())
+    /// ```
+    pub fn save(&self, epoch: Epoch, out: &mut [u8]) -> Result<usize, Refusal> {
+        let seen = raw::save(&self.books, &self.entries, &self.rows, out, epoch.get());
+        Refusal::check(seen.number)?;
+        Ok(seen.value as usize)
+    }
+
     /// EC, the next epoch: what the next read-write transaction (01: load) will be named by.
     pub fn ec(&self) -> Epoch {
         Epoch::new(self.books.clock.ec)
@@ -365,12 +438,12 @@ impl Store {
         (self.books, self.entries, self.rows)
     }
 
-    /// All words of the store, to save it by: the books, the entries, the rows.
+    /// All words of the store, to keep it by: the books, the entries, the rows.
     pub fn words(&self) -> &[u64; STORE_WORDS] {
         raw::words(self)
     }
 
-    /// The store that these words are, in their place: a saved one, or zeros, which are [`Store::blank`].
+    /// The store that these words are, in their place: a kept one, or zeros, which are [`Store::blank`].
     ///
     /// ```
     /// use nizgulk::{limits::STORE_WORDS, Epoch, Store};

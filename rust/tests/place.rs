@@ -24,6 +24,9 @@ fn a_day(store: &mut Store) -> Result<u64, Refusal> {
     store.end_ro(page)?;
     store.advance_lse(None)?;
     store.purge(0)?;
+    let mut out = [0; 40];
+    let length = store.save(store.lce(), &mut out)?;
+    store.recover(&out[..length])?;
     Ok(sum)
 }
 

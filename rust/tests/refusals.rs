@@ -28,11 +28,11 @@ fn refused<T>(number: u64, store: &mut Store, call: impl FnOnce(&mut Store) -> R
 }
 
 #[test]
-fn numbers_are_those_of_01() {
+fn numbers_are_those_of_01_and_02() {
     for (refusal, number) in Refusal::ALL.into_iter().zip(1..) {
         assert_eq!((refusal.number(), Refusal::from_number(number)), (number, Some(refusal)));
     }
-    assert_eq!([0, 11].map(Refusal::from_number), [None; 2]);
+    assert_eq!([0, 12].map(Refusal::from_number), [None; 2]);
     assert_eq!(Refusal::Blocked.to_string(), "refused, 10: an open transaction needs what is older");
 }
 
@@ -63,7 +63,7 @@ fn not_open_is_2() {
 }
 
 #[test]
-fn a_short_bitmap_is_3() {
+fn a_short_output_is_3() {
     let (store, load, page) = used();
     let (books, entries, rows) = store.into_parts();
     let mut bitmap = [0xa5; 1];
@@ -73,6 +73,18 @@ fn a_short_bitmap_is_3() {
     let mut bitmap = [0xa5; 3];
     assert_eq!(calls::scan_ro(&books, &entries, &rows, &mut bitmap, page.get(), 0).number, 0);
     assert_eq!(bitmap, [0b11111, 0, 0xa5]);
+
+    // Five rows are shown at epoch 1, and none at 0.
+    let mut store = Store::from_parts(books, entries, rows);
+    let mut out = [0xa5; 70];
+    for (epoch, needed) in [(0, 24), (1, 64)] {
+        for lent in [0, 23, needed - 1] {
+            refused(3, &mut store, |store| store.save(Epoch::new(epoch), &mut out[..lent]));
+            assert_eq!(out, [0xa5; 70]);
+        }
+    }
+    assert_eq!(store.save(Epoch::new(1), &mut out[..64]), Ok(64));
+    assert_eq!(out[64..], [0xa5; 6]);
 }
 
 #[test]
@@ -84,6 +96,15 @@ fn out_of_range_is_4() {
     let above = Epoch::new(store.lce().get() + 1);
     refused(4, &mut store, |store| store.begin_ro(above));
     refused(4, &mut store, |store| store.advance_lse(above));
+    // Out of range comes before an output that is too short.
+    refused(4, &mut store, |store| store.save(above, &mut [0xa5; 0]));
+    refused(4, &mut store, |store| store.save(Epoch::new(u64::MAX), &mut [0xa5; 99]));
+    let (mut books, entries, rows) = store.into_parts();
+    books.clock.lse = 1;
+    books.readers.at[0].epoch = 1;
+    let mut store = Store::from_parts(books, entries, rows);
+    assert!(store.save(Epoch::new(1), &mut [0xa5; 99]).is_ok());
+    refused(4, &mut store, |store| store.save(Epoch::new(0), &mut [0xa5; 99]));
 }
 
 #[test]
@@ -115,8 +136,18 @@ fn unsound_is_5() {
         refused(5, &mut store, |store| store.scan(page, 0).map(|scan| scan.len()));
         refused(5, &mut store, |store| store.advance_lse(None));
         refused(5, &mut store, |store| store.purge(0).map(|purged| purged.rewritten));
+        refused(5, &mut store, |store| store.save(Epoch::new(1), &mut [0xa5; 99]));
+        refused(5, &mut store, |store| store.save(Epoch::new(u64::MAX), &mut []));
+        // A recovery does not look at them.
+        assert_eq!(store.recover(&[]), Ok(()));
+        assert_eq!(store.begin(), Ok(Epoch::FIRST));
     }
-    let long = [Entry::BLANK; ENTRIES_LENT + 1];
+    let mut long = [Entry::BLANK; ENTRIES_LENT + 1];
+    let mut few = [7; 3];
+    // The lengths come before the file.
+    assert_eq!(calls::recover(&books, &mut long, &mut rows.clone(), &[0xff; 24]).number, 5);
+    assert_eq!(calls::recover(&books, &mut entries.clone(), &mut few, &[]).number, 5);
+    assert_eq!((long[0], few), (Entry::BLANK, [7; 3]));
     assert_eq!(calls::create(&books, &long, &rows, 1).number, 5);
     assert_eq!(calls::create(&books, &entries, &[], 1).number, 5);
     assert_eq!(calls::create(&books, &entries, &rows, 1).number, 0);
@@ -193,4 +224,46 @@ fn blocked_is_10() {
     refused(10, &mut store, |store| store.advance_lse(lce));
     assert_eq!(store.end_ro(page), Ok(0));
     assert_eq!(store.advance_lse(lce), Ok(lce));
+}
+
+/// A checkpoint of an epoch: so many rows of each partition, each row 7.
+fn checkpoint(epoch: u64, counts: [u16; 8]) -> Vec<u8> {
+    let mut bytes = epoch.to_le_bytes().to_vec();
+    bytes.extend(counts.iter().flat_map(|count| count.to_le_bytes()));
+    bytes.extend(7_u64.to_le_bytes().repeat(counts.iter().map(|&count| usize::from(count)).sum()));
+    bytes
+}
+
+#[test]
+fn corrupt_is_11() {
+    let one = [0, 0, 0, 1, 0, 0, 0, 0];
+    let good = checkpoint(9, one);
+    let nothing = checkpoint(0, [0; 8]);
+    for (epoch, counts) in [
+        (9, [513, 0, 0, 0, 0, 0, 0, 0]),
+        (9, [0, 0, 0, 0, 0, 0, 0, u16::MAX]),
+        (LAST_EPOCH + 1, [0; 8]),
+        (u64::MAX, one),
+        (0, one),
+    ] {
+        let bad = checkpoint(epoch, counts);
+        // In the first place and in a later one, with its rows, without them, and with another behind it.
+        for before in [vec![], nothing.clone(), [good.clone(), good.clone()].concat()] {
+            for file in [&bad[..], &bad[..24], &[&bad[..], &good].concat()] {
+                let (mut store, _, _) = used();
+                refused(11, &mut store, |store| store.recover(&[&before, file].concat()));
+                assert_eq!(Store::recovered(&[&before, file].concat()), Err(Refusal::Corrupt));
+            }
+            // A table of contents that is cut is not judged.
+            assert!(Store::recovered(&[&before, &bad[..23]].concat()).is_ok());
+        }
+    }
+    let (mut store, _, _) = used();
+    refused(11, &mut store, |store| store.recover(&[good.clone(), checkpoint(8, [0; 8])].concat()));
+    // These are at the edge, and accepted.
+    for (epoch, counts) in [(0, [0; 8]), (9, [512; 8]), (LAST_EPOCH, one), (9, one)] {
+        assert_eq!(store.recover(&[&checkpoint(epoch, [0; 8])[..], &checkpoint(epoch, counts)].concat()), Ok(()));
+        assert_eq!([store.ec(), store.lce(), store.lse()].map(Epoch::get), [epoch + 1, epoch, epoch]);
+        assert_eq!(store.row_count(3), Some(usize::from(counts[3])));
+    }
 }

@@ -1,9 +1,9 @@
 //! What the crate adds to the calls: the load that a close names, the iterator over rows shown, what a load is shown
-//! that clears, purge's part, the totals, a store's words, and where it may lie.
+//! that clears, purge's part, the totals, saves and recovery, a store's words, and where it may lie.
 
 use nizgulk::calls;
-use nizgulk::limits::{ROWS_MAX, STORE_WORDS};
-use nizgulk::{Closed, Epoch, Scan, Store};
+use nizgulk::limits::{CHECKPOINT_MAX, CONTENTS_BYTES, ROWS_MAX, STORE_WORDS};
+use nizgulk::{Closed, Epoch, Refusal, Scan, Store};
 
 /// A full partition: rows 0 to 511, by two loads in turn, as many at a time as these lengths say. Only the first
 /// commits.
@@ -178,8 +178,104 @@ fn a_total_is_what_a_page_at_lce_would_show() {
     assert_eq!(store.books().totals, [0; 8]);
 }
 
+/// What a page begun now is shown of each partition.
+fn shown(store: &mut Store) -> [Vec<u64>; 8] {
+    let page = store.begin_ro(None).unwrap();
+    let rows = std::array::from_fn(|partition| store.scan(page, partition as u64).unwrap().collect());
+    store.end_ro(page).unwrap();
+    rows
+}
+
+/// A file of five saves, the last two of one epoch; the end of each in it; and what a page was shown when it was saved.
+/// Each was saved while a load was open.
+fn saved() -> (Vec<u8>, Vec<usize>, Vec<[Vec<u64>; 8]>) {
+    let mut store = Store::new(Epoch::FIRST).unwrap();
+    let (mut file, mut ends, mut rows) = (vec![0xa5; 5 * CHECKPOINT_MAX], Vec::new(), Vec::new());
+    let mut end = 0;
+    for (turn, partition) in [0, 7, 0, 3].into_iter().enumerate() {
+        let load = store.begin().unwrap();
+        let open = store.begin().unwrap();
+        if turn == 2 {
+            store.clear(load, 0).unwrap();
+        }
+        store.append(load, partition, &[turn as u64, u64::MAX - turn as u64]).unwrap();
+        store.append(open, partition, &[77]).unwrap();
+        store.commit(load).unwrap();
+        let now = shown(&mut store);
+        for _ in 0..1 + turn / 3 {
+            end += store.save(store.lce(), &mut file[end..]).unwrap();
+            ends.push(end);
+            rows.push(now.clone());
+        }
+        store.roll_back(open).unwrap();
+    }
+    assert!(file[end..].iter().all(|&byte| byte == 0xa5));
+    file.truncate(end);
+    (file, ends, rows)
+}
+
 #[test]
-fn a_saved_store_goes_on() {
+fn every_cut_gives_the_last_whole_save() {
+    let (file, ends, rows) = saved();
+    assert_eq!(ends.last(), Some(&file.len()));
+    for cut in 0..=file.len() {
+        let whole = ends.iter().filter(|&&end| end <= cut).count();
+        let mut store = Store::recovered(&file[..cut]).unwrap();
+        let ought = if whole == 0 { Default::default() } else { rows[whole - 1].clone() };
+        assert_eq!(shown(&mut store), ought, "cut after {cut} bytes");
+        let weighed: Vec<u64> = ought.iter().map(|lot| lot.iter().map(|row| row & 0xffff_ffff).sum()).collect();
+        assert_eq!(store.books().totals.to_vec(), weighed);
+        assert_eq!(whole == 0, store.lce() == Epoch::new(0));
+    }
+}
+
+#[test]
+fn a_recovered_store_goes_on() {
+    let (file, ends, rows) = saved();
+    let (mut store, _, _) = striped(&[5, 13]);
+    let words_behind = store.rows()[ROWS_MAX - 1];
+    store.recover(&file[..ends[1]]).unwrap();
+    assert_eq!((store.books().writers.count, store.books().readers.count), (0, 0));
+    assert_eq!(shown(&mut store), rows[1]);
+    assert_eq!(store.rows()[ROWS_MAX - 1], words_behind);
+    // What was saved is saved again as it was.
+    let mut again = vec![0; ends[1] - ends[0]];
+    assert_eq!(store.save(store.lce(), &mut again), Ok(again.len()));
+    assert_eq!(again, file[ends[0]..ends[1]]);
+    assert_eq!(store.save(Epoch::new(0), &mut [0; CONTENTS_BYTES]), Err(Refusal::OutOfRange));
+    let load = store.begin().unwrap();
+    assert_eq!(load.get(), store.lce().get() + 1);
+    store.append(load, 7, &[5]).unwrap();
+    store.clear(load, 0).unwrap();
+    store.commit(load).unwrap();
+    store.advance_lse(None).unwrap();
+    assert!(store.purge(0).unwrap().rows.is_empty());
+    let mut now = rows[1].clone();
+    now[0].clear();
+    now[7].push(5);
+    assert_eq!(shown(&mut store), now);
+}
+
+#[test]
+fn a_full_store_is_saved_and_recovered() {
+    let mut store = Store::new(Epoch::LAST).unwrap();
+    let load = store.begin().unwrap();
+    for partition in 0..8 {
+        let rows: Vec<u64> = (0..ROWS_MAX as u64).map(|row| row << 40 | partition << 32 | row).collect();
+        store.append(load, partition, &rows).unwrap();
+    }
+    store.commit(load).unwrap();
+    let mut file = vec![0; CHECKPOINT_MAX];
+    assert_eq!(store.save(load, &mut file[..CHECKPOINT_MAX - 1]), Err(Refusal::ShortOutput));
+    assert_eq!(store.save(load, &mut file), Ok(CHECKPOINT_MAX));
+    let mut again = Store::recovered(&file).unwrap();
+    assert_eq!(shown(&mut again), shown(&mut store));
+    assert_eq!(again.books().totals, store.books().totals);
+    assert_eq!(again.begin(), Err(Refusal::Exhausted));
+}
+
+#[test]
+fn a_kept_store_goes_on() {
     let (mut store, second, rows) = striped(&[5, 13]);
     let mut saved = Box::new(*store.words());
     let again = Store::in_words(&mut saved);
