@@ -1,11 +1,12 @@
 pub mod Answers
 pub mod Append
 pub mod Begin
-pub mod Bytes
 pub mod Bitmap
+pub mod Bytes
 pub mod Calls
 pub mod Checkpoint
 pub mod Close
+pub mod Each
 pub mod Epochs
 pub mod Follows
 pub mod Hides

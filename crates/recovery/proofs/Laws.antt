@@ -1,4 +1,3 @@
 pub mod Bodies
-pub mod Each
 pub mod Restore
 pub mod Save

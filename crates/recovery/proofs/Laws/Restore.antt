@@ -53,7 +53,7 @@ use Rattle.recovery.specs.Restore.{refusedRestore, bodyOf, bodiesFor, we
 use Rattle.recovery.specs.Restore.{placeOf, rowsRestored, entriesFor, partitionFor, partitionsFor, doneRestore}
 use Rattle.recovery.specs.declared.Restored.{Restored}
 use Rattle.recovery.proofs.Laws.Bodies.{body-next, body-end, rows-at}
-use Rattle.recovery.proofs.Laws.Each.{each-at}
+use Rattle.laws.proofs.Laws.Each.{each-at}
 
 -- ---- a recovery carried out
 

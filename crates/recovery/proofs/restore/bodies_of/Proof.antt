@@ -9,7 +9,7 @@ use borrow.Author.Needs.{needs}
 use Rattle.rules.specs.Limits.{partitionsMax}
 use Rattle.recovery.specs.Restore.{bodyOf, Fits}
 use Rattle.recovery.proofs.Laws.Bodies.{body-next, body-end}
-use Rattle.recovery.proofs.Laws.Each.{Filled, filled-none, filled-next, filled-all}
+use Rattle.laws.proofs.Laws.Each.{Filled, filled-none, filled-next, filled-all}
 use Rattle.recovery.proofs.restore.bodies_of.Statement.{statement}
 use Rattle.recovery.proofs.restore.bodies_of.Tie as tie
 

@@ -10,7 +10,7 @@ use Rattle.rules.specs.Limits.{partitionsMax}
 use Rattle.rules.specs.declared.Entry.{Entry}
 use Rattle.lent.specs.Entries.{none}
 use Rattle.recovery.specs.declared.Restored.{Restored}
-use Rattle.recovery.proofs.Laws.Each.{Filled, filled-none, filled-next, filled-all}
+use Rattle.laws.proofs.Laws.Each.{Filled, filled-none, filled-next, filled-all}
 use Rattle.recovery.proofs.restore.entries_of.Statement.{statement}
 use Rattle.recovery.proofs.restore.entries_of.Tie as tie
 

@@ -11,7 +11,7 @@ use Rattle.rules.specs.Limits.{partitionsMax}
 use Rattle.rules.specs.Store.{noPartition}
 use Rattle.rules.specs.declared.Partition.{Partition}
 use Rattle.recovery.specs.Restore.{partitionFor}
-use Rattle.recovery.proofs.Laws.Each.{Filled, filled-none, filled-next, filled-all}
+use Rattle.laws.proofs.Laws.Each.{Filled, filled-none, filled-next, filled-all}
 use Rattle.recovery.proofs.restore.partitions_of.Statement.{statement}
 use Rattle.recovery.proofs.restore.partitions_of.Tie as tie
 

@@ -9,7 +9,7 @@ use lib.ListN.{length, getD}
 use borrow.Author.Needs.{needs}
 use Rattle.rules.specs.Limits.{partitionsMax}
 use Rattle.checkpoint.specs.Rows.{weightRead}
-use Rattle.recovery.proofs.Laws.Each.{Filled, filled-none, filled-next, filled-all}
+use Rattle.laws.proofs.Laws.Each.{Filled, filled-none, filled-next, filled-all}
 use Rattle.recovery.proofs.restore.weights_of.Statement.{statement}
 use Rattle.recovery.proofs.restore.weights_of.Tie as tie
 
