@@ -12,7 +12,7 @@ use rules::limits::READERS_MAX;
 use rules::limits::WRITERS_MAX;
 ghost use mathlib.Core.Bool.{_&&_, _||_};
 ghost use mathlib.Core.Path.{_≡_};
-ghost use lib.Dec.{eqb};
+ghost use lib.Dec.{eqb, ltb};
 ghost use lib.ListN.{length, drop};
 ghost use Rattle.rules.specs.Limits.{depsAll};
 ghost use Rattle.rules.specs.Manager.{managerWith};
@@ -34,7 +34,17 @@ fn zeros_from(xs: &[u64], from: usize) -> bool
     left == 0
 }
 
-// At most DEPS_MAX, rising, and 0 behind them.
+// Of n numbers there is none, or the last is below epoch.
+fn ends_below(n: usize, last: u64, epoch: u64) -> bool
+    ensures { λ r. ⌜ r ≡ eqb n 0 || ltb last epoch ⌝ }
+{
+    if n == 0 {
+        return true;
+    }
+    last < epoch
+}
+
+// At most DEPS_MAX, rising, and 0 behind them. The last is the greatest, so it alone is held against the epoch.
 fn row_ok(row: &[u64], k: usize, lse: u64, epoch: u64) -> bool
     ensures { λ r. ⌜ r ≡ rowOk lse epoch k (now (row .entry)) ⌝ }
 {
@@ -49,11 +59,11 @@ fn row_ok(row: &[u64], k: usize, lse: u64, epoch: u64) -> bool
         if d <= lo {
             return false;
         }
-        if epoch <= d {
-            return false;
-        }
         lo = d;
         j += 1;
+    }
+    if !ends_below(n, lo, epoch) {
+        return false;
     }
     zeros_from(row, k)
 }
