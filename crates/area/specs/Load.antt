@@ -1,6 +1,6 @@
--- One partition's entries out of those lent, all of them, and the last of a partition. 01 "Lots".
--- In order: a partition by its number, its entries, all entries, its last entry. Laws: proofs/Laws/Load.antt (of 576
--- lent entries the area is areaAt, and all are those lent).
+-- One partition's entries out of those lent, and the last of them. 01 "Lots".
+-- In order: a partition by its number, its entries, its last entry. Laws: proofs/Laws/Load.antt (of 576 lent entries
+-- the area is areaAt).
 -- Assumes nothing.
 use mathlib.Core.Bool.{_||_, cond}
 use mathlib.Core.List.{List}
@@ -12,9 +12,8 @@ use Rattle.rules.specs.Store.{noPartition}
 use Rattle.rules.specs.declared.Entry.{Entry}
 use Rattle.rules.specs.declared.Partition.{Partition}
 use Rattle.rules.specs.declared.Partitions.{Partitions}
-use Rattle.lent.specs.Entries.{none, filled0}
+use Rattle.lent.specs.Entries.{none}
 use Rattle.lent.specs.Shapes.{loaded}
-use Rattle.lent.specs.declared.Table.{Table}
 use Rattle.area.specs.Area.{baseOf}
 use Rattle.area.specs.declared.Area.{Area}
 
@@ -29,11 +28,6 @@ noEntries = replicate entriesMax none
 unfoldable pub loadedArea : List Entry → Partitions → ℕ → Area
 loadedArea es ps p = record {
   at = loaded noEntries es (baseOf entriesMax (partitionIn ps p .area)) entriesMax; count = partitionIn ps p .entries }
-
--- ---- all entries
-
-unfoldable pub loadedTable : List Entry → Table
-loadedTable es = record { at = loaded filled0 es 0 (entriesMax * areasMax) }
 
 -- ---- its last entry
 

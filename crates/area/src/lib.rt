@@ -1,6 +1,5 @@
 // Areas (01 "Lots"): where the rows and the entries of each of the nine stand among those of all, and one area's
-// entries, or all, read out of those lent.
-use lent::Table;
+// entries read out of those lent.
 use lent::read_entry;
 use rules::Entry;
 use rules::Partition;
@@ -13,8 +12,7 @@ use rules::limits::ROWS_MAX;
 ghost use mathlib.Core.Path.{_≡_};
 ghost use Rattle.rules.specs.Limits.{rowsMax, entriesMax};
 ghost use Rattle.area.specs.Area.{baseOf, placeAt};
-ghost use Rattle.area.specs.Load.{partitionIn, noEntries, loadedArea, loadedTable};
-ghost use Rattle.area.specs.Load.{lastIndex, lastEntry};
+ghost use Rattle.area.specs.Load.{partitionIn, noEntries, loadedArea, lastIndex, lastEntry};
 
 // The entries of one partition (01: lot), those in use first.
 #[repr(C)]
@@ -57,6 +55,13 @@ pub fn partition_at(ps: Partitions, p: u64) -> Partition
         rows: 0,
         entries: 0,
     }
+}
+
+// The same of a partition by its place.
+pub fn place_of(ps: Partitions, p: usize) -> Partition
+    ensures { λ r. ⌜ r ≡ partitionIn ps p ⌝ }
+{
+    partition_at(ps, p as u64)
 }
 
 // Where entry i goes, of `count` that are put from index `base` on; `past` where it is not in use, or out of range.
@@ -115,19 +120,6 @@ pub fn load(entries: &[Entry], ps: Partitions, p: u64) -> Area
         i = i + 1;
     }
     to_area(a, q)
-}
-
-// All lent entries, blank where there are fewer than those of nine areas.
-pub fn load_all(entries: &[Entry]) -> Table
-    ensures { λ r. ⌜ r ≡ loadedTable (now (entries .entry)) ⌝ }
-{
-    let mut a = lent::blank();
-    let mut i = 0;
-    while i < ENTRIES_LENT {
-        a[i] = read_entry(entries, i);
-        i = i + 1;
-    }
-    lent::to_table(a)
 }
 
 // The index of the last entry of partition p, past the end where there is none or a number is out of range.

@@ -1,6 +1,5 @@
 // The part of 01's *sound* that is about lots. 01 "Refusals that come from the state", last paragraph.
 use numbers::fill;
-use numbers::has;
 use places::in_use;
 use rules::Clock;
 use rules::Entry;
@@ -196,7 +195,7 @@ pub fn rest_of(entries: &[Entry], rows: &[u64], a: Asked) -> Verdict
     let mut p: usize = 0;
     let epochs = rest::epochs_in(a);
     while p < PARTITIONS_MAX {
-        let q = rest::place_of(places, p);
+        let q = area::place_of(places, p);
         let from = totals::from_of(q);
         let to = totals::to_of(q);
         let last = pass::pass(entries, &epochs, held, start, from, to);

@@ -19,7 +19,6 @@ use totals::Top;
 use totals::shown::closed;
 use totals::weigh::add;
 ghost use mathlib.Core.Path.{_≡_};
-ghost use Rattle.area.specs.Load.{partitionIn};
 ghost use Rattle.partition_sound.specs.Rest.{heldOf, reachOf, startOf, begins, weighedTo, clearedTo};
 ghost use Rattle.partition_sound.specs.Rest.{landingTo, judgedOf, landedAt, foundOf};
 
@@ -88,12 +87,6 @@ pub fn begin(n: usize, m: usize, ps: Partitions) -> bool
         return false;
     }
     areas_ok(ps)
-}
-
-pub fn place_of(ps: Partitions, p: usize) -> Partition
-    ensures { λ r. ⌜ r ≡ partitionIn ps p ⌝ }
-{
-    area::partition_at(ps, p as u64)
 }
 
 // Up to where a partition is weighed: to the end, and nowhere where it is not well.

@@ -1,7 +1,7 @@
-pub mod Below
+pub mod Joined
+pub mod Laid
 pub mod Planned
 pub mod Save
 pub mod Shown
-pub mod Table
 pub mod Words
 pub mod Written

@@ -1,107 +1,121 @@
 -- What a read-only transaction (01: page) at an epoch is shown of all partitions (01: lots), as runs of rows. 02 (v).
--- In order: the pieces of a partition, each the rows of one entry; runs, and a piece more; the runs of all partitions,
--- their row counts. Laws: proofs/Laws/Words.antt, proofs/Laws/Shown.antt.
+-- In order: runs as words; the run that may still grow, and an entry more; the words of one partition, of all; what a
+-- plan reads of them. Laws: proofs/Laws/Joined.antt, proofs/Laws/Laid.antt, proofs/Laws/Shown.antt.
 -- Assumes nothing.
-use mathlib.Core.Bool.{Bool, not, _&&_, cond}
-use mathlib.Core.List.{List, [], _∷_, foldl, map}
-use Prim.Native.Nat.{ℕ, _+_, _-_, _*_}
+use mathlib.Core.Bool.{_&&_, cond}
+use mathlib.Core.List.{List, [], _∷_, map}
+use Prim.Native.Nat.{ℕ, zero, suc, _+_, _-_, _*_, _/_, _%_}
 use lib.ListN.{set, replicate}
-use lib.Dec.{ltb, leb, eqb}
-use Rattle.lists.specs.Lists.{gather, part}
-use Rattle.rules.specs.Limits.{rowsMax, entriesMax, partitionsMax}
+use lib.Dec.{ltb}
+use Rattle.lists.specs.Lists.{part}
+use Rattle.rules.specs.Limits.{partitionsMax}
 use Rattle.rules.specs.Checkpoint.{sumOf}
 use Rattle.rules.specs.Store.{partitionNumbers}
 use Rattle.rules.specs.declared.Entry.{Entry}
 use Rattle.rules.specs.declared.Partition.{Partition}
 use Rattle.rules.specs.declared.Partitions.{Partitions}
-use Rattle.area.specs.Area.{baseOf}
 use Rattle.area.specs.Load.{partitionIn}
+use Rattle.lent.specs.Shapes.{turned}
 use Rattle.totals.specs.Places.{fromOf, toOf}
 use Rattle.totals.specs.Reach.{pageReach, noTop, topTurn, cutOf, shows}
 use Rattle.totals.specs.declared.Cut.{Cut}
-use Rattle.plan_save.specs.declared.runs.Run.{Run}
+use Rattle.plan_save.specs.declared.runs.Pending.{Pending}
 use Rattle.plan_save.specs.declared.runs.Runs.{Runs}
 
--- ---- pieces: rows `from` up to `end` of those lent
+-- ---- runs as words: rows from up to end, of a partition's
 
-pub record Piece : Type 0 where
+pub record Run : Type 0 where
   pub from : ℕ
   pub end : ℕ
 
--- an entry whose rows begin at row begin has rows of a partition, and they are shown
-unfoldable pub adds : Cut → ℕ → Entry → Bool
-adds c begin e = ltb begin (e .end) && leb (e .end) rowsMax && shows c begin (e .epoch)
+abbrev pub fromIn : ℕ → ℕ
+fromIn w = w / 65536
 
--- of entries whose first begins at row begin
-unfoldable pub pieces : Cut → ℕ → List Entry → List Piece
-pieces c begin [] = []
-pieces c begin (e ∷ es) =
-    let rest = pieces c (e .end) es in
-    cond (adds c begin e) (record { from = c .base + begin; end = c .base + e .end } ∷ rest) rest
+abbrev pub endIn : ℕ → ℕ
+endIn w = w % 65536
 
--- the entries of partition q among those of all areas
-abbrev pub entriesFor : List Entry → Partition → List Entry
-entriesFor es q = part (fromOf q) (toOf q - fromOf q) es
+abbrev pub widthIn : ℕ → ℕ
+widthIn w = endIn w - fromIn w
 
--- what its greatest clearing leaves to a page at e
-abbrev pub pageCut : List Entry → Partition → ℕ → Cut
-pageCut es q e =
-    cutOf (pageReach e) (foldl (topTurn (pageReach e)) noTop (entriesFor es q)) (baseOf rowsMax (q .area))
-
--- of partition p
-unfoldable pub piecesAt : List Entry → Partitions → ℕ → ℕ → List Piece
-piecesAt es ps e p = let q = partitionIn ps p in pieces (pageCut es q e) 0 (entriesFor es q)
+-- up to the first without rows
+unfoldable pub runsIn : List ℕ → List Run
+runsIn [] = []
+runsIn (w ∷ ws) = cond (ltb (fromIn w) (endIn w)) (record { from = fromIn w; end = endIn w } ∷ runsIn ws) []
 
 -- how many rows they are
-unfoldable pub sizeOf : List Piece → ℕ
-sizeOf xs = sumOf (map (λ x. x .end - x .from) xs)
+unfoldable pub sizeOf : List Run → ℕ
+sizeOf rs = sumOf (map (λ r. r .end - r .from) rs)
 
--- ---- runs
+-- ---- the run that may still grow
 
--- each entry in use adds one at most
+-- 64 entries have 32 runs at most, since between two stands an entry that is not shown; behind them one without rows
 abbrev pub runsMax : ℕ
-runsMax = partitionsMax * entriesMax
+runsMax = 33
 
-unfoldable pub noRows : List ℕ
-noRows = replicate runsMax 0
+abbrev pub wordsMax : ℕ
+wordsMax = partitionsMax * runsMax
 
--- of each run the first row and the row count, and the last of them
+unfoldable pub noWords : List ℕ
+noWords = replicate wordsMax 0
+
+-- before the first entry of partition p, whose runs stand from place 33 * p on
+unfoldable pub firstOf : ℕ → Pending
+firstOf p = record { at = cond (ltb p partitionsMax) (runsMax * p) 0; from = 0; end = 0 }
+
+-- the next run goes behind it, if it has rows
+unfoldable pub nextOf : Pending → ℕ
+nextOf s = cond (ltb (s .from) (s .end) && ltb (s .at) wordsMax) (s .at + 1) (s .at)
+
+-- it grows by the rows of an entry that are shown, and ends before those that are not
+unfoldable pub pendingTurn : Cut → Pending → Entry → Pending
+pendingTurn c s e =
+    cond (shows c (s .end) (e .epoch)) (record { at = s .at; from = s .from; end = e .end })
+    (record { at = nextOf s; from = e .end; end = e .end })
+
+unfoldable pub placeIn : Pending → ℕ
+placeIn s = cond (ltb (s .at) wordsMax) (s .at) 0
+
+unfoldable pub wordOf : Pending → ℕ
+wordOf s = s .from % 65536 * 65536 + s .end % 65536
+
+-- ---- the words of all partitions
+
 pub record Laid : Type 0 where
-  pub from : List ℕ
-  pub count : List ℕ
-  pub last : Run
+  pub pending : Pending
+  pub words : List ℕ
 
-abbrev pub noneLaid : Laid
-noneLaid = record { from = noRows; count = noRows; last = record { n = 0; from = 0; end = 0 } }
+-- an entry more: the pending run goes to its place, as far as it has grown
+abbrev pub laidTurn : Cut → Laid → Entry → Laid
+laidTurn c x e =
+    let s = pendingTurn c (x .pending) e in record { pending = s; words = set (x .words) (placeIn s) (wordOf s) }
 
--- row from follows the last run
-unfoldable pub isNext : ℕ → Run → Bool
-isNext from r = not (eqb (r .n) 0) && eqb (r .end) from
+-- what the greatest clearing of partition q leaves to a page at e; where its rows lie does not matter here
+abbrev pub pageCut : List Entry → Partition → ℕ → Cut
+pageCut es q e =
+    cutOf (pageReach e) (turned (topTurn (pageReach e)) noTop es (fromOf q) (toOf q - fromOf q)) 0
 
--- rows from up to end more: the last run is longer where they follow it, else there is one more
-unfoldable pub grownRun : ℕ → ℕ → Run → Run
-grownRun from end r =
-    cond (isNext from r) (record { n = r .n; from = r .from; end = end })
-    (record { n = r .n + 1; from = from; end = end })
+-- after n entries of partition p
+abbrev pub laidIn : List Entry → Partition → ℕ → ℕ → List ℕ → ℕ → Laid
+laidIn es q e p ws n = turned (laidTurn (pageCut es q e)) (record { pending = firstOf p; words = ws }) es (fromOf q) n
 
--- r is the last run now
-abbrev pub laidWith : Run → Laid → Laid
-laidWith r x = record {
-  from = set (x .from) (r .n - 1) (r .from); count = set (x .count) (r .n - 1) (r .end - r .from); last = r }
+-- after the partitions below p
+unfoldable pub laidBelow : List Entry → Partitions → ℕ → ℕ → List ℕ
+laidBelow es ps e zero = noWords
+laidBelow es ps e (suc p) =
+    let q = partitionIn ps p in laidIn es q e p (laidBelow es ps e p) (toOf q - fromOf q) .words
 
--- a piece more
-unfoldable pub laidPiece : Laid → Piece → Laid
-laidPiece x b = laidWith (grownRun (b .from) (b .end) (x .last)) x
+abbrev pub runsWith : List ℕ → Runs
+runsWith ws = record { at = ws }
 
--- ---- of all partitions
+abbrev pub runsOf : List Entry → Partitions → ℕ → Runs
+runsOf es ps e = runsWith (laidBelow es ps e partitionsMax)
 
-unfoldable pub allLaid : List Entry → Partitions → ℕ → Laid
-allLaid es ps e = foldl laidPiece noneLaid (gather (piecesAt es ps e) partitionNumbers)
+-- ---- what a plan reads of them
 
-unfoldable pub countsShown : List Entry → Partitions → ℕ → List ℕ
-countsShown es ps e = map (λ p. sizeOf (piecesAt es ps e p)) partitionNumbers
+-- the words of partition p
+abbrev pub wordsAt : List ℕ → ℕ → List ℕ
+wordsAt ws p = part (runsMax * p) runsMax ws
 
-unfoldable pub runsOf : List Entry → Partitions → ℕ → Runs
-runsOf es ps e =
-    let x = allLaid es ps e in let counts = countsShown es ps e in record {
-      from = x .from; count = x .count; n = x .last .n; counts = counts; rows = sumOf counts }
+-- how many rows each partition has
+unfoldable pub countsOf : List ℕ → List ℕ
+countsOf ws = map (λ p. sizeOf (runsIn (wordsAt ws p))) partitionNumbers

@@ -1,47 +1,43 @@
 // What a read-only transaction (01: page) at an epoch is shown of all partitions (01: lots), as runs of rows. The rows
-// of an entry are shown together or not at all, so the entries alone tell. Rows that follow one another are one run.
+// of an entry are shown together or not at all, so the entries alone tell. Shown rows that stand together are one run.
 use crate::RUNS_MAX;
-use area::row_base;
-use lent::Table;
+use crate::WORDS_MAX;
+use area::place_of;
+use lent::read_entry;
 use rules::Entry;
 use rules::Partitions;
 use rules::limits::PARTITIONS_MAX;
-use rules::limits::ROWS_MAX;
 use totals::Cut;
 use totals::Reach;
+use totals::clearing::find;
 use totals::clearing::no_top;
-use totals::clearing::turn;
 use totals::cut_of;
 use totals::from_of;
 use totals::shown::is_shown;
 use totals::to_of;
 ghost use mathlib.Core.Path.{_≡_};
-ghost use Prim.Native.Nat.{_*_, _≤_, _<_};
-ghost use Rattle.rules.specs.Limits.{rowsMax, entriesMax, partitionsMax};
+ghost use Prim.Native.Nat.{_≤_};
 ghost use Rattle.totals.specs.Reach.{pageReach};
-ghost use Rattle.plan_save.specs.Runs.{runsMax, noRows, adds, isNext, grownRun, runsOf};
+ghost use Rattle.plan_save.specs.Runs.{noWords, firstOf, nextOf, pendingTurn, placeIn, wordOf, fromIn, widthIn};
+ghost use Rattle.plan_save.specs.Runs.{runsWith, runsOf};
 
-// The first n runs: run i has count[i] rows from row from[i] on. Partition p has counts[p] rows of them, and `rows` is
-// how many they are.
+// A run is one word: 65,536 times the row of its partition that it begins at, and the row that it ends before. Those of
+// partition p stand from place 33 * p on, and behind them a word without rows.
 pub struct Runs {
-    pub from: [usize; RUNS_MAX],
-    pub count: [usize; RUNS_MAX],
-    pub n: usize,
-    pub counts: [usize; PARTITIONS_MAX],
-    pub rows: usize,
+    pub at: [u32; WORDS_MAX],
 }
 
-// The last of n runs: rows `from` up to `end`.
-pub struct Run {
-    pub n: usize,
+// The run that may still grow: it goes to place `at`, and has the rows `from` up to `end` so far.
+pub struct Pending {
+    pub at: usize,
     pub from: usize,
     pub end: usize,
 }
 
-pub(crate) fn no_rows() -> [usize; RUNS_MAX]
-    ensures { λ r. ⌜ r ≡ noRows ⌝ }
+pub(crate) fn no_words() -> [u32; WORDS_MAX]
+    ensures { λ r. ⌜ r ≡ noWords ⌝ }
 {
-    [0; RUNS_MAX]
+    [0; WORDS_MAX]
 }
 
 // What a page at e sees.
@@ -55,102 +51,120 @@ fn page_at(e: u64) -> Reach
     }
 }
 
-// An entry whose rows begin at row `begin` has rows, and they are shown.
-fn adds_rows(c: Cut, begin: usize, e: Entry) -> bool
-    ensures { λ r. ⌜ r ≡ adds c begin e ⌝ }
+// Before the first entry of partition p.
+fn first_of(p: usize) -> Pending
+    ensures { λ r. ⌜ r ≡ firstOf p ⌝ }
 {
-    if e.end <= begin {
-        return false;
+    let mut at: usize = 0;
+    if p < PARTITIONS_MAX {
+        at = RUNS_MAX * p;
     }
-    if ROWS_MAX < e.end {
-        return false;
+    Pending {
+        at: at,
+        from: 0,
+        end: 0,
     }
-    is_shown(c, begin, e.epoch)
 }
 
-// Row `from` follows the last run.
-fn follows(r: Run, from: usize) -> bool
-    ensures { λ b. ⌜ b ≡ isNext from r ⌝ }
+// Where the next run goes: behind the pending one, if that has rows.
+fn next_of(s: Pending) -> usize
+    ensures { λ r. ⌜ r ≡ nextOf s ⌝ }
 {
-    if r.n == 0 {
-        return false;
+    if s.end <= s.from {
+        return s.at;
     }
-    r.end == from
+    if WORDS_MAX <= s.at {
+        return s.at;
+    }
+    s.at + 1
 }
 
-// Rows `from` up to `end` more: to the last run where they follow it, else as a run more.
-fn grow(r: Run, from: usize, end: usize) -> Run
-    requires { ⌜ r .n < runsMax ⌝ }
-    ensures { λ s. ⌜ s ≡ grownRun from end r ⌝ }
+// One entry more: the pending run grows by its rows, or ends before them.
+fn step(c: Cut, s: Pending, e: Entry) -> Pending
+    ensures { λ r. ⌜ r ≡ pendingTurn c s e ⌝ }
 {
-    if follows(r, from) {
-        return Run {
-            n: r.n,
-            from: r.from,
-            end: end,
+    if is_shown(c, s.end, e.epoch) {
+        return Pending {
+            at: s.at,
+            from: s.from,
+            end: e.end,
         };
     }
-    Run {
-        n: r.n + 1,
-        from: from,
-        end: end,
+    let n = next_of(s);
+    Pending {
+        at: n,
+        from: e.end,
+        end: e.end,
     }
 }
 
-// Of each partition first the greatest clearing, then the rows that it leaves.
-pub(crate) fn runs_of(t: Table, ps: Partitions, e: u64) -> Runs
-    ensures { λ r. ⌜ (r ≡ runsOf (t .at) ps e) × (r .rows ≤ rowsMax * entriesMax * partitionsMax) ⌝ }
+// Where the pending run goes; the first place where there is none such.
+fn place_in(s: Pending) -> usize
+    ensures { λ r. ⌜ r ≡ placeIn s ⌝ }
+{
+    if s.at < WORDS_MAX {
+        return s.at;
+    }
+    0
+}
+
+fn word_of(s: Pending) -> u32
+    ensures { λ r. ⌜ r ≡ wordOf s ⌝ }
+{
+    (s.from % 65536 * 65536 + s.end % 65536) as u32
+}
+
+// The row that the run of a word begins at.
+pub(crate) fn from_in(w: u32) -> usize
+    ensures { λ r. ⌜ r ≡ fromIn w ⌝ }
+{
+    (w / 65536) as usize
+}
+
+// How many rows it has.
+pub(crate) fn width_in(w: u32) -> usize
+    ensures { λ r. ⌜ (r ≡ widthIn w) × (r ≤ 65535) ⌝ }
+{
+    let from = (w / 65536) as usize;
+    let end = (w % 65536) as usize;
+    if end <= from {
+        return 0;
+    }
+    end - from
+}
+
+fn to_runs(at: [u32; WORDS_MAX]) -> Runs
+    ensures { λ r. ⌜ r ≡ runsWith at ⌝ }
+{
+    Runs { at: at }
+}
+
+// Of each partition first the greatest clearing, then the rows that it leaves: a turn writes the pending run to its
+// place, as far as it has grown. The rows are lent to every pass; they are not read here.
+pub fn runs_of(entries: &[Entry], rows: &[u64], ps: Partitions, e: u64) -> Runs
+    ensures { λ r. ⌜ r ≡ runsOf (now (entries .entry)) ps e ⌝ }
 {
     let reach = page_at(e);
     let none = no_top();
-    let mut from = no_rows();
-    let mut count = no_rows();
-    let mut counts = [0usize; PARTITIONS_MAX];
-    let mut all: usize = 0;
-    let mut last = Run {
-        n: 0,
-        from: 0,
-        end: 0,
-    };
     let mut p: usize = 0;
+    let mut a = no_words();
     while p < PARTITIONS_MAX {
-        let q = ps.at[p];
-        let first = from_of(q);
+        let q = place_of(ps, p);
+        let from = from_of(q);
         let to = to_of(q);
-        let base = row_base(q.area);
-        let mut top = none;
-        let mut i = first;
+        let top = find(entries, rows, reach, none, from, to);
+        let cut = cut_of(reach, top, 0);
+        let mut s = first_of(p);
+        let mut i = from;
         while i < to {
-            let x = t.at[i];
-            top = turn(reach, top, x);
+            let x = read_entry(entries, i);
+            s = step(cut, s, x);
+            let k = place_in(s);
+            let w = word_of(s);
+            a[k] = w;
             i += 1;
         }
-        let cut = cut_of(reach, top, base);
-        let mut rows: usize = 0;
-        let mut begin: usize = 0;
-        i = first;
-        while i < to {
-            let x = t.at[i];
-            let end = x.end;
-            if adds_rows(cut, begin, x) {
-                last = grow(last, base + begin, base + end);
-                let k = last.n - 1;
-                from[k] = last.from;
-                count[k] = last.end - last.from;
-                rows += end - begin;
-            }
-            begin = end;
-            i += 1;
-        }
-        counts[p] = rows;
-        all += rows;
         p += 1;
     }
-    Runs {
-        from: from,
-        count: count,
-        n: last.n,
-        counts: counts,
-        rows: all,
-    }
+    to_runs(a)
 }

@@ -3,8 +3,6 @@ pub mod Callers
 pub mod Change
 pub mod Core
 pub mod Extent
-pub mod Filling
-pub mod Fills
 pub mod Folds
 pub mod Load
 pub mod Look
@@ -14,7 +12,6 @@ pub mod Saves
 pub mod Saving
 pub mod Scan
 pub mod Shape
-pub mod Starts
 pub mod Tail
 pub mod Then
 pub mod Two

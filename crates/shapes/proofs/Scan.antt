@@ -1,9 +1,10 @@
 -- A public function that writes bytes, and its walk: books, entries: &[Entry], rows: &[u64], bitmap: &mut [u8], and
--- values. It asks whether the lots are sound, loads what it needs of the entries, plans by value, writes the bytes by
--- the plan, or by the rows and the plan, and answers. A scan is one, and so is a save, whose bytes are a checkpoint.
+-- values. It asks whether the lots are sound, loads what it needs by the partitions and one of the values, plans by
+-- value, writes the bytes by the plan, and answers. A scan is one, and so is a save, whose bytes are a checkpoint.
 --     Scan             such a function: the types of its plan and of its answer, its values, its callees, what they
---                      yield, and what its contract says. `planOf` takes the books, whether the lots are sound, what is
---                      loaded, and the bitmap's length. Extent.antt says what `extent` and `fromRows` choose
+--                      yield, and what its contract says. `key` is the value that the load is passed, and `fromRows`
+--                      says whether the load and the writer are lent the rows (Extent.antt). `planOf` takes the books,
+--                      whether the lots are sound, what is loaded, and the bitmap's length
 --     function         its MIR, by the symbols of its callees.        ended, clauses    its contract
 --     Loads, Core, Wrote, Fin     the contracts of its callees
 --     meets            the MIR meets the contract, where the callees meet theirs
@@ -56,12 +57,12 @@ use Rattle.walks.proofs.Lend.{Lent, lent-by, token, shr, mutAt, refOf, valOf, r
 use Rattle.walks.proofs.Values.{drops, lastly, no-fit, had, drops-go, values, keeps, quiet, tys, Of, copies, Nums}
 use Rattle.walks.proofs.Values.{applied, spells, spelt, vals, Fits, tells, typed, moved, fits-moved, args-after}
 use Rattle.walks.proofs.Shown.{Shown, number, flag}
-use Rattle.walks.proofs.Calls.{Yields, yield-call, Finds, find-call}
+use Rattle.walks.proofs.Calls.{Yields, yield-call}
 use Rattle.shapes.proofs.Core.{state, books, Ask, askedParts, partsOf, askedFields, asksOf, restOf}
 use Rattle.shapes.proofs.Core.{Asks, Rests, in-books, ask-args, partitions-arg}
 use Rattle.shapes.proofs.Two.{find2-call}
-use Rattle.shapes.proofs.Extent.{Extent, behind, handTys, hands, handed, hand-fits, hand-args, rowed, onward}
-use Rattle.shapes.proofs.Extent.{Written, writing}
+use Rattle.shapes.proofs.Extent.{rowed, onward, handTys, Taken, taking, Written, writing}
+use Rattle.shapes.proofs.Load.{Key}
 use Rattle.shapes.proofs.Tail.{With}
 
 pub record Scan : Type 2 where
@@ -70,21 +71,21 @@ pub record Scan : Type 2 where
   pub plan : Shown
   pub answer : Shown
   pub given : List Shown
-  pub extent : Extent given
+  pub key : Key given
   pub fromRows : Bool
   pub load : Name
   pub core : Name
   pub wr : Name
   pub fin : Name
-  pub loadOf : List Entry → Of (handTys extent) (loaded .row .Denot)
+  pub loadOf : List Entry → With fromRows (Of handTys (loaded .row .Denot))
   pub planOf : State → Bool → loaded .row .Denot → Of (number ∷ given) (plan .row .Denot)
   pub bytesBy : List ℕ → With fromRows (plan .row .Denot → List ℕ)
   pub answerOf : plan .row .Denot → answer .row .Denot
   pub Ends : State → List Entry → List ℕ → List ℕ → Of given (answer .row .Denot → List ℕ → Type 0)
   pub ends : (s : State) → Is K.the-row s (books s ∷ []) → (es : List Entry) (rs bs : List ℕ) (κs : Lfts 3) (t : Nums 3
-      κs given) → let w = applied 0 tt (number ∷ given) (planOf s (restOf asks s es rs) (applied 1 (κs .0, tt) (handTys
-      extent) (loadOf es) (handed s κs t (κs .0) extent))) (length bs, moved 3 κs 0 tt given t) in applied 3 κs given
-      (Ends s es rs bs) t (answerOf w) (rowed fromRows (bytesBy bs) rs w)
+      κs given) → let w = applied 0 tt (number ∷ given) (planOf s (restOf asks s es rs) (rowed fromRows (loadOf es) rs
+      (s .partitions) (key .of 3 κs t))) (length bs, moved 3 κs 0 tt given t) in applied 3 κs given (Ends s es rs bs) t
+      (answerOf w) (rowed fromRows (bytesBy bs) rs w)
 
 abbrev word : Ty
 word = tyInt w64
@@ -96,6 +97,10 @@ params n = K′.mir ∷ sliceTy (tyRef (named 0) imm (pointee (T.the-row .writte
 abbrev temps : Ask → Shown → Shown → List Ty
 temps q X P = word ∷ q .asked .mir ∷ tyBool ∷ X .mir ∷ P .mir ∷ tyUnit ∷ tyRef erased mut (tyInt w8) ∷ sliceTy
     (tyRef erased mut (tyInt w8)) ∷ []
+
+-- the values stand behind the bitmap
+abbrev behind : ℕ → ℕ
+behind i = suc (suc (suc (suc i)))
 
 abbrev temp : List Shown → ℕ → ℕ
 temp n i = suc (past (asLocals (params n)) i)
@@ -126,12 +131,13 @@ module _ (sh : Scan) where
       (seq (call (q .ask) askedFields (place (temp n 1) []))
       (seq (call (q .rest) (copy (place 2 []) ∷ copy (place 3 []) ∷ copy (place (temp n 1) []) ∷ []) (place (temp n 2)
           []))
-      (seq (call (sh .load) (copy (place 2 []) ∷ hands (sh .extent)) (place (temp n 3) []))
+      (seq (call (sh .load) (onward (sh .fromRows) (copy (place 2 [])) (copy (place 3 [])) (copy (place 1 (field 4 ∷
+          [])) ∷ copy (place (suc (behind (sh .key .local))) []) ∷ [])) (place (temp n 3) []))
       (seq (call (sh .core) (copy (place 1 []) ∷ copy (place (temp n 2) []) ∷ copy (place (temp n 3) []) ∷ copy (place
           (temp n 0) []) ∷ copies 4 n) (place (temp n 4) []))
       (reborrow 4 (temp n 6) (temp n 7) (tyInt w8)
       (seq (call (sh .wr) (onward (sh .fromRows) (copy (place (temp n 7) [])) (copy (place 3 [])) (copy (place (temp n
-          4) []))) (place (temp n 5) []))
+          4) []) ∷ [])) (place (temp n 5) []))
       (seq (call (sh .fin) (copy (place (temp n 4) []) ∷ []) (place 0 [])) return)))))));
   }
 
@@ -153,7 +159,7 @@ module _ (sh : Scan) where
         (a .0) (a .1 .0 .now) (a .1 .1 .0 .now) (a .1 .1 .1 .0 .now)) (a .1 .1 .1 .1) r (e .1 .1 .1 .0 .now)) }
 
     abbrev pub Loads : (H : Heap 𝓤) (A : Atoms 𝓤) → Contract 𝓤
-    Loads = Finds 𝓤 X (handTys (sh .extent)) T.the-row (sh .loadOf)
+    Loads = Taken X 𝓤 (sh .fromRows) (sh .loadOf)
 
     abbrev pub Core : (H : Heap 𝓤) (A : Atoms 𝓤) → Contract 𝓤
     Core = Yields 𝓤 P (state ∷ flag ∷ X ∷ number ∷ n) (sh .planOf)
@@ -189,11 +195,11 @@ module _ (sh : Scan) where
       abbrev passed : List Val
       passed = books s ∷ held x₁ ∷ held x₂ ∷ held x₃ ∷ vals 3 κs n t
 
-      abbrev h : Nums 1 (x₁ .lft, tt) (handTys (sh .extent))
-      h = handed s κs t (x₁ .lft) (sh .extent)
+      abbrev k : ℕ
+      k = sh .key .of 3 κs t
 
       abbrev z : X .row .Denot
-      z = applied 1 (x₁ .lft, tt) (handTys (sh .extent)) (sh .loadOf (x₁ .list)) h
+      z = rowed (sh .fromRows) (sh .loadOf (x₁ .list)) (x₂ .list) (s .partitions) k
 
       abbrev ok : Bool
       ok = restOf q s (x₁ .list) (x₂ .list)
@@ -267,11 +273,11 @@ module _ (sh : Scan) where
                   (λ _ _ _. and-then ! (get ! 3 1 refl refl refl) (and-then ! (get ! 3 2 refl refl refl) (and-then !
                   (get ! 4 1 refl (at-t 1) refl) (no-more !)))) (λ gf.
               land ! (spot ! (at-t 2) (stop !)) (sets ! 5 2 refl tt (tt, tt)) $
-              find-call fm T.the-row X (handTys (sh .extent)) (sh .loadOf) known-load x₁ h (hand-fits s κs t (x₁ .lft)
-                  (sh .extent) gs ft) (λ _ _. and-then ! (get ! 4 1 refl refl refl) (hand-args s κs t (x₁ .lft) (sh
-                  .extent) (partitions-arg ! 4 s refl refl refl refl) (λ k. get ! 4 (behind (k .local)) refl
-                  (lies-in 𝓤 H (params n) passed ps _ (behind (k .local)) _ well (k .has 3 κs t)) (k .has 3 κs t)))) (λ
-                  gx.
+              taking X fm x₁ x₂ (s .partitions) (in-books s gs .1 .1 .0) k (sh .key .fits 3 κs t ft) (sh .fromRows) (sh
+                  .loadOf) known-load (λ _ i e. get ! i 1 e refl refl) (λ _ i e. get ! i 2 e refl refl) (λ _ i e.
+                  and-then ! (partitions-arg ! i s e refl refl refl) (and-then ! (get ! i (behind (sh .key .local)) e
+                  (lies-in 𝓤 H (params n) passed ps _ (behind (sh .key .local)) _ well (sh .key .has 3 κs t)) (sh .key
+                  .has 3 κs t)) (no-more !))) (λ gx.
               land ! (spot ! (at-t 3) (stop !)) (sets ! 5 3 refl tt (X .wt 𝓤 H A W z gx)) $
               yield-call fm P (state ∷ flag ∷ X ∷ number ∷ n) (sh .planOf) known-core (s, (ok, (z, ms))) (gs, (refl,
                   (gx, ((refl, r₃ .0), fits-moved 3 κs 0 tt n t ft)))) (λ _. and-then ! (get ! 5 0 refl refl refl)

@@ -14,8 +14,8 @@ pub fn no_top() -> Top
     Top { epoch: 0, edge: 0 }
 }
 
-// One entry more.
-pub fn turn(r: Reach, t: Top, e: Entry) -> Top
+// One entry more. The rows are lent to every pass; they are not read here.
+fn step(rows: &[u64], r: Reach, t: Top, e: Entry) -> Top
     ensures { λ u. ⌜ u ≡ topTurn r t e ⌝ }
 {
     if e.mark != 1 {
@@ -38,13 +38,6 @@ pub fn turn(r: Reach, t: Top, e: Entry) -> Top
         epoch: j,
         edge: e.end,
     }
-}
-
-// The rows are lent to every pass; they are not read here.
-fn step(rows: &[u64], r: Reach, t: Top, e: Entry) -> Top
-    ensures { λ u. ⌜ u ≡ topTurn r t e ⌝ }
-{
-    turn(r, t, e)
 }
 
 // The entries from one index up to another, each a step.

@@ -1,35 +1,24 @@
--- One partition's entries out of those lent: of 576 they are the area's, and the last is the one at its index; and all
--- of 576 are those lent.
+-- One partition's entries out of those lent: of 576 they are the area's, and the last is the one at its index.
 -- Definitions: specs/Load.antt.
 -- Assumes nothing.
-use mathlib.Core.Path.{_≡_, refl, _∙_}
+use mathlib.Core.Path.{_≡_, refl}
 use mathlib.Core.List.{List}
 use Prim.Native.Nat.{ℕ, _+_, _*_, _-_, _≤_, _<_}
 use native.Mathlib.Omega.{arith}
-use lib.ListN.{length, getD, length-replicate}
-use lib.Seq.{take-all}
+use lib.ListN.{length, getD}
 use borrow.Author.Tests.{le-ltb, lt-leb}
 use Rattle.rules.specs.Limits.{areasMax, entriesMax}
 use Rattle.rules.specs.declared.Entry.{Entry}
 use Rattle.rules.specs.declared.Partitions.{Partitions}
-use Rattle.lent.specs.Entries.{none, filled0}
+use Rattle.lent.specs.Entries.{none}
 use Rattle.lent.proofs.Loaded.{loaded-part}
 use Rattle.area.specs.Area.{baseOf, areaAt}
-use Rattle.area.specs.Load.{partitionIn, noEntries, loadedArea, loadedTable, lastIndex, lastEntry}
+use Rattle.area.specs.Load.{partitionIn, noEntries, loadedArea, lastIndex, lastEntry}
 use Rattle.area.proofs.Laws.Area.{base-fits}
 
 blank-length : length noEntries ≡ entriesMax
 unfolding noEntries
 blank-length = refl
-
-blanks-length : length filled0 ≡ entriesMax * areasMax
-unfolding filled0
-blanks-length = length-replicate (entriesMax * areasMax) none
-
-pub loaded-table : (es : List Entry) → length es ≡ entriesMax * areasMax → loadedTable es .at ≡ es
-unfolding loadedTable
-loaded-table es len = loaded-part filled0 es 0 (entriesMax * areasMax) blanks-length (omega arith)
-    ∙ take-all (entriesMax * areasMax) es (omega arith)
 
 module _ (es : List Entry) (len : length es ≡ entriesMax * areasMax) (ps : Partitions) (p : ℕ) where
   pub loaded-area : loadedArea es ps p ≡ areaAt es (partitionIn ps p)

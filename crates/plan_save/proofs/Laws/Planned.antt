@@ -1,28 +1,32 @@
 -- Of a sound store the plan of an accepted save holds what a read-only transaction (01: page) is shown, and writes the
 -- checkpoint (02: round) of it. Definitions: specs/Save.antt; rules/specs/Recovery.antt.
--- In order: a refusal; the rows of the runs; plan-size, plan-writes.
+-- In order: a refusal; where the partitions' rows stand; plan-size, plan-writes.
 -- Elsewhere: it is what step leaves (recovery/proofs/Laws/Save.antt).
 -- Assumes nothing.
 use mathlib.Core.Path.{_≡_, refl, _∙_, ap}
-use mathlib.Core.List.{List, [], _∷_, map}
-use Prim.Native.Nat.{ℕ, _+_, _≤_, _<_}
+use mathlib.Core.List.{List, [], _∷_}
+use Prim.Native.Nat.{ℕ, _+_, _*_, _≤_, _<_}
 use native.Mathlib.Omega.{arith}
 use lib.ListN.{length, getD}
+use borrow.Author.Tests.{lt-ltb}
 use Rattle.lists.specs.Lists.{gather}
 use Rattle.lists.proofs.Laws.Select.{gather-append}
-use Rattle.rules.specs.Limits.{partitionsMax}
+use Rattle.rules.specs.Limits.{rowsMax, areasMax, partitionsMax}
 use Rattle.rules.specs.Checkpoint.{bytesOf, Checkpoint, encoded, bodySize}
-use Rattle.rules.specs.Store.{Store, partitionNumbers}
+use Rattle.rules.specs.Store.{Store, partitionAt, partitionNumbers}
 use Rattle.rules.specs.Recovery.{shownAt, checkpointAt}
 use Rattle.rules.specs.Step.{savedOver}
+use Rattle.rules.specs.declared.Partitions.{Partitions}
 use Rattle.rules.specs.declared.Refusal.{Refusal}
 use Rattle.laws.proofs.Laws.Checkpoint.{bodiesOf, length-encoded}
 use Rattle.laws.proofs.Laws.WellFormed.{StoreOk}
-use Rattle.plan_save.specs.Runs.{piecesAt, allLaid, runsOf}
-use Rattle.plan_save.specs.Save.{refusedSave, sizeOfRuns, acceptedSave, saveWritten}
-use Rattle.plan_save.specs.declared.runs.Runs.{Runs}
-use Rattle.plan_save.proofs.Laws.Words.{pieceWords, runWords, laidWords}
-use Rattle.plan_save.proofs.Laws.Shown.{all-laid, all-words, words-at, counts-are}
+use Rattle.area.specs.Area.{baseOf}
+use Rattle.area.specs.Load.{partitionIn}
+use Rattle.plan_save.specs.Runs.{runsIn, runsOf, wordsAt}
+use Rattle.plan_save.specs.Save.{basesOf, refusedSave, sizeOfRuns, acceptedSave, saveWritten}
+use Rattle.laws.proofs.Laws.Each.{each-at}
+use Rattle.plan_save.proofs.Laws.Joined.{runRows}
+use Rattle.plan_save.proofs.Laws.Shown.{runs-ok, rows-at, counts-are}
 use Rattle.plan_save.proofs.Laws.Written.{written}
 
 pub refused-writes : (r : Refusal) (rows out : List ℕ) → saveWritten (refusedSave r) rows out ≡ out
@@ -35,8 +39,11 @@ gather-gather f g [] = refl
 gather-gather f g (x ∷ xs) = gather-append f (g x) (gather g xs) ∙ rw (gather-gather f g xs)
 
 module _ (st : Store) (ok : StoreOk st) (e : ℕ) where
-  abbrev r : Runs
-  r = runsOf (st .entries) (st .state .partitions) e
+  abbrev ps : Partitions
+  ps = st .state .partitions
+
+  abbrev ws : List ℕ
+  ws = runsOf (st .entries) ps e .at
 
   abbrev c : Checkpoint
   c = checkpointAt e st
@@ -49,35 +56,26 @@ module _ (st : Store) (ok : StoreOk st) (e : ℕ) where
   unfolding checkpointAt
   epoch-same = refl
 
-  counts-same : r .counts ≡ map length (c .rows)
-  unfolding runsOf
-  counts-same = counts-are st ok e
+  base-at : (i : ℕ) → i < partitionsMax → getD (basesOf ps) i 0 ≡ rowsMax * partitionAt i st .area
+  unfolding basesOf
+  base-at i h = each-at 0 (λ p. baseOf rowsMax (partitionIn ps p .area)) i h
+      ∙ rw (lt-ltb (partitionAt i st .area) areasMax (ok .areas .inside i h))
 
-  -- the rows of the runs are those shown of partition 0 to 7
-  words-same : laidWords (st .rows) (allLaid (st .entries) (st .state .partitions) e)
-      ≡ gather (λ p. shownAt e p st) partitionNumbers
-  words-same = let at = words-at st ok e in all-words (st .entries) (st .state .partitions) e (st .rows)
-      ∙ (gather-gather (pieceWords (st .rows)) (piecesAt (st .entries) (st .state .partitions) e) partitionNumbers
-      ∙ rw (at 0 (omega arith), at 1 (omega arith), at 2 (omega arith), at 3 (omega arith), at 4 (omega arith),
-          at 5 (omega arith), at 6 (omega arith), at 7 (omega arith)))
+  there : (i : ℕ) → i < partitionsMax → getD (basesOf ps) i 0 + rowsMax ≤ length (st .rows)
+  there i h = let b = base-at i h in let a = ok .areas .inside i h in let l = ok .rows-length in omega arith
 
-  held : gather (bytesOf 8) (runWords (st .rows) (r .from) (r .count) (r .n)) ≡ bodiesOf c
-  unfolding runsOf checkpointAt
-  held = ap (gather (bytesOf 8)) words-same ∙ gather-gather (bytesOf 8) (λ p. shownAt e p st) partitionNumbers
+  holds : (i : ℕ) → i < partitionsMax
+      → gather (runRows (st .rows) (getD (basesOf ps) i 0)) (runsIn (wordsAt ws i)) ≡ shownAt e i st
+  holds i h = rw (base-at i h) (rows-at st ok e i h)
 
-  few : r .n ≤ 512
-  unfolding runsOf
-  few = all-laid (st .entries) (st .state .partitions) e .few
+  bodies : gather (bytesOf 8) (gather (λ p. shownAt e p st) partitionNumbers) ≡ bodiesOf c
+  unfolding checkpointAt
+  bodies = gather-gather (bytesOf 8) (λ p. shownAt e p st) partitionNumbers
 
-  there : (i : ℕ) → i < r .n → getD (r .from) i 0 + getD (r .count) i 0 ≤ length (st .rows)
-  unfolding runsOf
-  there i h = let l = ok .rows-length in
-      let f = all-laid (st .entries) (st .state .partitions) e .fits i h in omega arith
+  pub plan-size : sizeOfRuns ws ≡ length (encoded c)
+  plan-size = let n = length-encoded c eight in let s = ap bodySize (counts-are st ok e) in omega arith
 
-  pub plan-size : sizeOfRuns r ≡ length (encoded c)
-  plan-size = let n = length-encoded c eight in let s = ap bodySize counts-same in omega arith
-
-  pub plan-writes : (out : List ℕ) → sizeOfRuns r ≤ length out
-      → saveWritten (acceptedSave e r) (st .rows) out ≡ savedOver c out
-  plan-writes out room =
-      written (acceptedSave e r) (st .rows) out c eight epoch-same counts-same few there held refl room
+  pub plan-writes : (out : List ℕ) → sizeOfRuns ws ≤ length out
+      → saveWritten (acceptedSave ps ws e) (st .rows) out ≡ savedOver c out
+  plan-writes out room = written (acceptedSave ps ws e) (st .rows) out c (λ p. shownAt e p st) eight epoch-same
+      (counts-are st ok e) there (ok .rows-length) (runs-ok st ok e) holds bodies refl room

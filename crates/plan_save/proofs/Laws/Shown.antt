@@ -1,129 +1,42 @@
--- The pieces of a sound store's partitions (01: lots) hold what a read-only transaction (01: page) is shown of them.
+-- The runs of a sound store's partitions (01: lots) hold what a read-only transaction (01: page) is shown of them.
 -- Definitions: specs/Runs.antt; rules/specs/Hides.antt, rules/specs/Recovery.antt.
--- In order: pieces of any entries, how many and where; their rows; one partition of a sound store; all of them.
+-- In order: a part that is kept; the partitions below p; the rows of one partition; how many.
 -- Assumes nothing.
-use mathlib.Core.Path.{_≡_, refl, _∙_, ap}
-use mathlib.Core.Bool.{true, false}
-use mathlib.Core.List.{List, [], _∷_, map}
-use Prim.Native.Nat.{ℕ, _+_, _-_, _*_, _≤_, _<_}
+use mathlib.Core.Path.{_≡_, sym, _∙_, ap}
+use mathlib.Core.List.{List, foldl, map}
+use Prim.Native.Nat.{ℕ, zero, suc, _+_, _-_, _*_, _≤_, _<_}
 use native.Mathlib.Omega.{arith}
-use lib.ListN.{length, drop, length-append, length-take}
-use lib.Dec.{ltb, leb}
-use borrow.Author.Tests.{ltb-true, ltb-false, lt-ltb, le-leb}
-use Rattle.lists.specs.Lists.{gather}
-use Rattle.lists.proofs.Laws.All.{All, All-every, All-imp, All-gather}
-use Rattle.lists.proofs.Laws.Bools.{split}
-use Rattle.lists.proofs.Laws.Parts.{length-part}
-use Rattle.rules.specs.Limits.{rowsMax, entriesMax, areasMax, partitionsMax}
+use lib.ListN.{length, take, drop, getD, length-take, length-replicate, getD-replicate}
+use lib.Seq.{take-take, getD-drop}
+use borrow.Author.Tests.{lt-ltb}
+use Rattle.lists.specs.Lists.{gather, part}
+use Rattle.lists.proofs.Laws.All.{All, All-imp}
+use Rattle.lists.proofs.Laws.Bools.{split-eq}
+use Rattle.lists.proofs.Laws.Parts.{drop-take}
+use Rattle.rules.specs.Limits.{rowsMax, entriesMax, partitionsMax}
 use Rattle.rules.specs.Span.{Span}
-use Rattle.rules.specs.Store.{Store, managerOf, partitionAt, entriesAt, spansAt, partitionNumbers}
+use Rattle.rules.specs.Store.{Store, managerOf, partitionAt, entriesAt, spansAt}
 use Rattle.rules.specs.Recovery.{shownAt, checkpointAt}
-use Rattle.rules.specs.WellFormed.{endsOk}
 use Rattle.rules.specs.declared.Entry.{Entry}
+use Rattle.rules.specs.declared.Partition.{Partition}
 use Rattle.rules.specs.declared.Partitions.{Partitions}
-use Rattle.laws.proofs.Laws.Span.{end-ok, endsOk-le}
 use Rattle.laws.proofs.Laws.Epochs.{epoch-facts}
 use Rattle.laws.proofs.Laws.WellFormed.{StoreOk, partition-entries}
-use Rattle.area.specs.Load.{partitionIn}
-use Rattle.totals.specs.Places.{fromOf, toOf}
-use Rattle.totals.specs.Reach.{pageReach, shows}
+use Rattle.totals.specs.Reach.{pageReach, noTop, topTurn, cutOf, shows}
 use Rattle.totals.specs.declared.Cut.{Cut}
-use Rattle.totals.proofs.Laws.Tallied.{shownRows}
 use Rattle.totals.proofs.Laws.Page.{page-shows}
-use Rattle.totals.proofs.Laws.Lot.{Lies, lot-entries, lot-shown}
-use Rattle.plan_save.specs.Runs.{Piece, adds, pieces, entriesFor, pageCut, piecesAt, sizeOf, runsMax, noneLaid}
-use Rattle.plan_save.specs.Runs.{allLaid, countsShown}
-use Rattle.plan_save.proofs.Laws.Below.{bounds, adds-facts}
-use Rattle.plan_save.proofs.Laws.Words.{pieceWords, runWords, laidWords, WellLaid, none-laid, PieceOk}
-use Rattle.plan_save.proofs.Laws.Words.{laid-pieces, words-pieces}
+use Rattle.totals.proofs.Laws.Lot.{Lies, lot-turned, topOf, lot-shown}
+use Rattle.plan_save.specs.Runs.{runsIn, sizeOf, runsMax, wordsMax, noWords, firstOf, wordOf, Laid, laidTurn}
+use Rattle.plan_save.specs.Runs.{pageCut, laidBelow, runsOf, wordsAt, countsOf}
+use Rattle.plan_save.proofs.Laws.Joined.{joined, RunOk, joined-ok, runRows, joined-rows, size-rows}
+use Rattle.plan_save.proofs.Laws.Laid.{Stands, Lays, lays}
 
--- ---- pieces of any entries
+-- ---- a part that is kept
 
--- the rows that are lent
-abbrev pub lentRows : ℕ
-lentRows = rowsMax * areasMax
-
-pieces-ok : (c : Cut) → c .base + rowsMax ≤ lentRows → (begin : ℕ) (es : List Entry)
-    → All (PieceOk lentRows) (pieces c begin es)
-unfolding pieces
-pieces-ok c h begin [] = tt
-pieces-ok c h begin (e ∷ es) = let rest = pieces-ok c h (e .end) es in split (adds c begin e)
-  (λ y. let a = adds-facts c begin e y in let s = a .some in let f = a .few in
-        rw y (record { up = omega arith; low = omega arith }, rest))
-  (λ f. rw f rest)
-
-pieces-few : (c : Cut) (begin : ℕ) (es : List Entry) → length (pieces c begin es) ≤ length es
-unfolding pieces
-pieces-few c begin [] = omega arith
-pieces-few c begin (e ∷ es) = let rest = pieces-few c (e .end) es in
-    split (adds c begin e) (λ y. rw y (omega arith)) (λ f. rw f (omega arith))
-
-module _ (es : List Entry) (ps : Partitions) (e : ℕ) where
-  at-ok : (p : ℕ) → All (PieceOk lentRows) (piecesAt es ps e p)
-  unfolding piecesAt
-  at-ok p = let q = partitionIn ps p in pieces-ok (pageCut es q e) (bounds q .low) 0 (entriesFor es q)
-
-  at-few : (p : ℕ) → length (piecesAt es ps e p) ≤ entriesMax
-  unfolding piecesAt
-  at-few p = let q = partitionIn ps p in let f = pieces-few (pageCut es q e) 0 (entriesFor es q) in
-      let b = bounds q in let l = b .few in omega (arith, f, l, length-take (toOf q - fromOf q) (drop (fromOf q) es))
-
-  all-ok : All (PieceOk lentRows) (gather (piecesAt es ps e) partitionNumbers)
-  all-ok = All-gather (PieceOk lentRows) (piecesAt es ps e) partitionNumbers (All-every _ at-ok partitionNumbers)
-
-  all-few : length (gather (piecesAt es ps e) partitionNumbers) ≤ runsMax
-  all-few = simp length-append (omega (arith, at-few 0, at-few 1, at-few 2, at-few 3, at-few 4, at-few 5, at-few 6,
-      at-few 7))
-
-  -- the runs of all partitions
-  pub all-laid : WellLaid runsMax lentRows (allLaid es ps e)
-  unfolding allLaid
-  all-laid = let xs = gather (piecesAt es ps e) partitionNumbers in let f = all-few in
-      let w = laid-pieces lentRows xs 0 noneLaid (none-laid lentRows) all-ok (omega arith) in record {
-        from-length = w .from-length; count-length = w .count-length; few = omega (arith, w .few); ends = w .ends;
-        last-from = w .last-from; last-count = w .last-count; fits = w .fits }
-
-  pub all-words : (rows : List ℕ) → laidWords rows (allLaid es ps e)
-      ≡ gather (pieceWords rows) (gather (piecesAt es ps e) partitionNumbers)
-  unfolding allLaid runWords
-  all-words rows = let xs = gather (piecesAt es ps e) partitionNumbers in let f = all-few in
-      words-pieces lentRows rows xs 0 noneLaid (none-laid lentRows) all-ok (omega arith)
-
--- ---- how many rows they are
-
-size-words : (rows : List ℕ) → length rows ≡ lentRows → (xs : List Piece) → All (PieceOk lentRows) xs
-    → sizeOf xs ≡ length (gather (pieceWords rows) xs)
-unfolding sizeOf
-size-words rows n [] h = refl
-size-words rows n (x ∷ xs) h = let u = h .0 .up in let l = h .0 .low in
-    rw (size-words rows n xs (h .1), length-append (pieceWords rows x) (gather (pieceWords rows) xs),
-      length-part (x .from) (x .end - x .from) rows (omega arith))
-
--- ---- of entries that end well, they hold the rows that a cut shows
-
-adds-is : (c : Cut) (k : ℕ) (e : Entry) → ltb k (e .end) ≡ true → leb (e .end) rowsMax ≡ true
-    → adds c k e ≡ shows c k (e .epoch)
-unfolding adds
-adds-is c k e a b = rw (a, b)
-
-adds-none : (c : Cut) (k : ℕ) (e : Entry) → ltb k (e .end) ≡ false → adds c k e ≡ false
-unfolding adds
-adds-none c k e a = rw a
-
-pieces-words : (rows : List ℕ) (c : Cut) (n k : ℕ) (es : List Entry) → n ≤ rowsMax → endsOk n k es ≡ true
-    → gather (pieceWords rows) (pieces c k es) ≡ shownRows rows c k es
-unfolding pieces shownRows
-pieces-words rows c n k [] f h = refl
-pieces-words rows c n k (e ∷ es) f h =
-    let o = end-ok n k e es h in let low = o .low in let g = endsOk-le n (e .end) es (o .rest) in
-    let ih = pieces-words rows c n (e .end) es f (o .rest) in
-    split (ltb k (e .end))
-    (λ y. let l = ltb-true k (e .end) y in let z : (c .base + e .end) - (c .base + k) ≡ e .end - k = omega arith in
-          split (shows c k (e .epoch))
-          (λ a. rw (adds-is c k e y (le-leb (e .end) rowsMax (omega arith)), a, z, ih))
-          (λ a. rw (adds-is c k e y (le-leb (e .end) rowsMax (omega arith)), a, ih)))
-    (λ y. let l = ltb-false k (e .end) y in let z : e .end - k ≡ 0 = omega arith in
-          rw (adds-none c k e y, z, ih) (split (shows c k (e .epoch)) (λ a. rw a) (λ a. rw a)))
+part-kept : (n k m : ℕ) (xs ys : List ℕ) → k + m ≤ n → take n xs ≡ take n ys → part k m xs ≡ part k m ys
+part-kept n k m xs ys h e =
+    let f = sym (take-take (k + m) n xs h) ∙ (ap (take (k + m)) e ∙ take-take (k + m) n ys h) in
+    sym (drop-take k m xs) ∙ (ap (drop k) f ∙ drop-take k m ys)
 
 -- ---- a sound store
 
@@ -134,30 +47,117 @@ module _ (st : Store) (ok : StoreOk st) (e : ℕ) where
   abbrev ps : Partitions
   ps = st .state .partitions
 
+  abbrev cut : ℕ → Cut
+  cut p = pageCut es (partitionAt p st) e
+
+  abbrev runs : ℕ → List ℕ
+  runs p = laidBelow es ps e p
+
   lies : (p : ℕ) → p < partitionsMax → Lies es (st .rows) (partitionAt p st)
   lies p h = let o = partition-entries p st (ok .partition p h) in let n = ok .partition p h .entry-count in
       let f = ok .partition p h .spans-ok .entries-fit in record {
         placed = record { entries-length = ok .entries-length; inside = ok .areas .inside p h; few = omega arith };
         rows-length = ok .rows-length; fits = o .rows-fit; ends = o .ends }
 
-  seen : (p : ℕ) → p < partitionsMax → All (λ (s : Span). 1 ≤ s .epoch) (spansAt p st)
-  seen p h = All-imp _ _ (λ s t. epoch-facts (managerOf st) (s .epoch) t .low) (spansAt p st)
-      (ok .partition p h .spans-ok .epochs)
+  few : (p : ℕ) → p < partitionsMax → length (entriesAt p st) ≤ entriesMax
+  few p h = let q = partitionAt p st in let f = lies p h .placed .few in
+      omega (arith, length-take (q .entries) (drop (entriesMax * q .area) es))
 
-  -- what a page at e is shown of partition p
-  pub words-at : (p : ℕ) → p < partitionsMax
-      → gather (pieceWords (st .rows)) (piecesAt es ps e p) ≡ shownAt e p st
-  unfolding piecesAt
-  words-at p h = let q = partitionAt p st in let l = lies p h in
-      rw (lot-entries es q (l .placed), lt-ltb (q .area) areasMax (l .placed .inside))
-      (pieces-words (st .rows) _ (q .rows) 0 (entriesAt p st) (l .fits) (l .ends)
-        ∙ (lot-shown es (st .rows) q l (pageReach e) ∙ (unfold spansAt in page-shows e (spansAt p st) (seen p h))))
+  -- ---- the partitions below p: their runs are laid, and the places of the others are blank
 
-  pub size-at : (p : ℕ) → p < partitionsMax → sizeOf (piecesAt es ps e p) ≡ length (shownAt e p st)
-  size-at p h = size-words (st .rows) (ok .rows-length) (piecesAt es ps e p) (at-ok es ps e p)
-      ∙ ap length (words-at p h)
+  record Below (p : ℕ) (ws : List ℕ) : Type 0 where
+    long : length ws ≡ wordsMax
+    laid : (i : ℕ) → i < p → runsIn (wordsAt ws i) ≡ joined (cut i) 0 0 (entriesAt i st)
+    blank : (j : ℕ) → runsMax * p ≤ j → j < wordsMax → getD ws j 0 ≡ 0
 
-  pub counts-are : countsShown es ps e ≡ map length (checkpointAt e st .rows)
-  unfolding countsShown checkpointAt
+  below-none : Below 0 (runs 0)
+  unfolding laidBelow noWords
+  below-none = record { long = length-replicate {A = ℕ} wordsMax 0; laid = λ i h. absurd (omega arith);
+    blank = λ j h k. getD-replicate {A = ℕ} wordsMax j 0 0 k }
+
+  module _ (p : ℕ) (h : p < partitionsMax) (w : Below p (runs p)) where
+    abbrev start : Laid
+    start = record { pending = record { at = runsMax * p; from = 0; end = 0 }; words = runs p }
+
+    first-is : firstOf p ≡ record { at = runsMax * p; from = 0; end = 0 }
+    unfolding firstOf
+    first-is = rw (lt-ltb p partitionsMax h)
+
+    stands : Stands (runsMax * p) (length (entriesAt p st)) start
+    unfolding wordOf
+    stands = let l = w .long in let f = few p h in record {
+      long = l; inside = omega arith; low = omega arith; room = omega arith; up = omega arith; few = omega arith;
+      here = w .blank (runsMax * p) (omega arith) (omega arith);
+      blank = λ j a k. w .blank j (omega arith) (omega arith) }
+
+    -- as the code lays them
+    laid-lot : runs (suc p) ≡ foldl (laidTurn (cut p)) start (entriesAt p st) .words
+    unfolding laidBelow
+    laid-lot = ap (λ x. x .words) (lot-turned es (partitionAt p st) (lies p h .placed) (laidTurn (cut p))
+        (record { pending = firstOf p; words = runs p }))
+      ∙ ap (λ s. foldl (laidTurn (cut p)) (record { pending = s; words = runs p }) (entriesAt p st) .words) first-is
+
+    lays-lot : Lays (runsMax * p) start (foldl (laidTurn (cut p)) start (entriesAt p st))
+        (joined (cut p) 0 0 (entriesAt p st))
+    lays-lot = lays (runsMax * p) (cut p) (partitionAt p st .rows) (entriesAt p st) start (lies p h .fits)
+      (lies p h .ends) stands
+
+    abbrev next : List ℕ
+    next = foldl (laidTurn (cut p)) start (entriesAt p st) .words
+
+    below-next : Below (suc p) (runs (suc p))
+    below-next = let l = lays-lot in let n = runsMax * p + runsMax in
+        let m : runsMax * p + runsMax - runsMax * p ≡ runsMax = omega arith in rw laid-lot (record {
+          long = l .long;
+          laid = λ i k. split-eq i p
+            (λ t. rw t (ap (λ a. runsIn (part (runsMax * p) a next)) (sym m) ∙ l .runs))
+            (λ ne. ap runsIn (part-kept (runsMax * p) (runsMax * i) runsMax next (runs p) (omega arith) (l .before))
+              ∙ w .laid i (omega arith));
+          blank = λ j a k. let d : n + (j - n) ≡ j = omega arith in
+            ap (λ i. getD next i 0) (sym d) ∙ (sym (getD-drop n next (j - n) 0)
+            ∙ (ap (λ xs. getD xs (j - n) 0) (l .behind) ∙ (getD-drop n (runs p) (j - n) 0
+            ∙ rw d (w .blank j (omega arith) k)))) })
+
+  below : (p : ℕ) → p ≤ partitionsMax → Below p (runs p)
+  below zero h = below-none
+  below (suc p) h = below-next p (omega arith) (below p (omega arith))
+
+  -- ---- the rows of one partition
+
+  module _ (p : ℕ) (h : p < partitionsMax) where
+    abbrev q : Partition
+    q = partitionAt p st
+
+    abbrev own : List ℕ
+    own = wordsAt (runsOf es ps e .at) p
+
+    runs-are : runsIn own ≡ joined (cut p) 0 0 (entriesAt p st)
+    runs-are = below partitionsMax (omega arith) .laid p h
+
+    -- where the rows lie does not matter
+    same : (n j : ℕ) → shows (cut p) n j
+        ≡ shows (cutOf (pageReach e) (topOf es (st .rows) q (lies p h) (pageReach e)) (rowsMax * q .area)) n j
+    unfolding shows
+    same n j = rw (lot-turned es q (lies p h .placed) (topTurn (pageReach e)) noTop)
+
+    seen : All (λ (s : Span). 1 ≤ s .epoch) (spansAt p st)
+    seen = All-imp _ _ (λ s t. epoch-facts (managerOf st) (s .epoch) t .low) (spansAt p st)
+        (ok .partition p h .spans-ok .epochs)
+
+    pub runs-ok : All RunOk (runsIn own)
+    runs-ok = rw runs-are (joined-ok (cut p) (q .rows) 0 0 (entriesAt p st) (lies p h .fits) (lies p h .ends))
+
+    -- what a page at e is shown
+    pub rows-at : gather (runRows (st .rows) (rowsMax * q .area)) (runsIn own) ≡ shownAt e p st
+    rows-at = let l = lies p h in rw runs-are
+        (joined-rows (st .rows) (cut p) _ same (q .rows) 0 0 (entriesAt p st) (omega arith) (l .ends)
+          ∙ (lot-shown es (st .rows) q l (pageReach e) ∙ (unfold spansAt in page-shows e (spansAt p st) seen)))
+
+    size-at : sizeOf (runsIn own) ≡ length (shownAt e p st)
+    size-at = let l = ok .rows-length in let i = lies p h .placed .inside in
+        size-rows (st .rows) (rowsMax * q .area) (omega arith) (runsIn own) runs-ok ∙ ap length rows-at
+
+  pub counts-are : countsOf (runsOf es ps e .at) ≡ map length (checkpointAt e st .rows)
+  unfolding countsOf checkpointAt
   counts-are = rw (size-at 0 (omega arith), size-at 1 (omega arith), size-at 2 (omega arith), size-at 3 (omega arith),
       size-at 4 (omega arith), size-at 5 (omega arith), size-at 6 (omega arith), size-at 7 (omega arith))

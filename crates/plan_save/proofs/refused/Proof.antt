@@ -4,4 +4,4 @@ use Rattle.plan_save.proofs.refused.Statement.{statement}
 use Rattle.plan_save.proofs.refused.Tie as tie
 
 pub refused-spec : {M : Type 1} → statement M
-refused-spec = tie.close (tie.spec (λ c κs. search needs) (λ c. rw (c .no-rows .ensures)))
+refused-spec = tie.close (tie.spec (λ c κs. search needs) (λ c. rw (c .no-words .ensures)))

@@ -1,7 +1,8 @@
 -- `save_core` meets its contract: refused, or the runs of rows that are shown.
 -- Assumes nothing.
-use mathlib.Core.Path.{_≡_, sym, _∙_}
+use mathlib.Core.Path.{_≡_, sym, _∙_, ap}
 use mathlib.Core.Bool.{true, _&&_}
+use native.Mathlib.Omega.{arith}
 use borrow.Author.Needs.{needs}
 use Rattle.lists.proofs.Laws.Branches.{said-yes, said-no}
 use Rattle.rules.specs.Calls.{within}
@@ -37,26 +38,31 @@ reached c = said-yes (c .before .in-range .ensures) (c .if2 .left)
 returns : tie.Need-returns
 returns c = let f = c .before in let a = start (f .before) .args in
     c .refused .ensures
-    ∙ sym (plan-unsound (a .t1) (a .rest) (a .t .at) (a .k) (a .e) (said-no (sound (f .before)) (f .if1 .taken)))
+    ∙ sym (plan-unsound (a .t1) (a .rest) (a .t3 .at) (a .k) (a .e) (said-no (sound (f .before)) (f .if1 .taken)))
 
 returns-2 : tie.Need-returns-2
 returns-2 c = let f = c .before in let a = start2 (f .before) .args in
     c .refused2 .ensures
-    ∙ sym (plan-range (a .t1) (a .rest) (a .t .at) (a .k) (a .e) (ok (f .before .before .before))
+    ∙ sym (plan-range (a .t1) (a .rest) (a .t3 .at) (a .k) (a .e) (ok (f .before .before .before))
         (said-no (f .before .in-range .ensures) (f .if2 .taken)))
 
+-- at the sizes of the runs
+abbrev ranged : tie.After-sizes-of → tie.Else2
+ranged c = c .before .before .before .before
+
 returns-3 : tie.Need-returns-3
-returns-3 c = let f = c .before in let r = f .before .before in let g = r .before .before in
-    let a = start2 (g .before) .args in
+returns-3 c = let f = c .before in let r = f .before .before in let g = ranged r in let a = start2 (g .before) .args in
+    let n = ap (λ x. x .rows) (r .sizes-of .ensures .0) in
     c .refused3 .ensures
-    ∙ sym (plan-short (a .t1) (a .rest) (a .t .at) (a .k) (a .e) (ok (g .before .before .before)) (reached g)
-        (r .runs-of .result) (r .runs-of .ensures .0) (f .if3 .taken))
+    ∙ sym (plan-short (a .t1) (a .rest) (a .t3 .at) (a .k) (a .e) (ok (g .before .before .before)) (reached g)
+        (omega (arith, n, f .if3 .taken)))
 
 returns-4 : tie.Need-returns-4
-returns-4 c = let f = c .before .before .before in let r = f .before .before in let g = r .before .before in
-    let a = start2 (g .before) .args in
-    sym (plan-saved (a .t1) (a .rest) (a .t .at) (a .k) (a .e) (ok (g .before .before .before)) (reached g)
-        (r .runs-of .result) (r .runs-of .ensures .0) (f .if3 .left))
+returns-4 c = let f = c .before .before .before .before in let r = f .before .before in let g = ranged r in
+    let a = start2 (g .before) .args in let n = ap (λ x. x .rows) (r .sizes-of .ensures .0) in
+    rw (r .sizes-of .ensures .0, c .before .bases-of .ensures)
+    (sym (plan-saved (a .t1) (a .rest) (a .t3 .at) (a .k) (a .e) (ok (g .before .before .before)) (reached g)
+        (omega (arith, n, f .if3 .left))))
 
 pub save-core-spec : {M : Type 1} → statement M
 save-core-spec =
@@ -73,4 +79,5 @@ save-core-spec =
     (λ c. search needs)
     (λ c κs. search needs)
     returns-3
+    (λ c κs. search needs)
     returns-4)

@@ -4,13 +4,13 @@
 -- Assumes nothing.
 use mathlib.Core.Path.{_≡_, refl, ap}
 use mathlib.Core.List.{List}
-use Prim.Native.Nat.{ℕ, _*_, _≤_}
+use Prim.Native.Nat.{ℕ, _≤_}
 use native.Mathlib.Omega.{arith}
 use lib.ListN.{length}
 use lib.Dec.{ltb}
 use borrow.Author.Tests.{ltb-false, le-ltb}
 use Rattle.lists.proofs.Laws.Bools.{split}
-use Rattle.rules.specs.Limits.{partitionsMax, entriesMax, areasMax}
+use Rattle.rules.specs.Limits.{partitionsMax}
 use Rattle.rules.specs.Checkpoint.{encoded}
 use Rattle.rules.specs.Store.{Store}
 use Rattle.rules.specs.WellFormed.{sound}
@@ -39,20 +39,18 @@ refused-left : (r : Refusal) (next lent : List ℕ) (st : Store)
     → Carried lent st (writeOutcome (Refused r) next lent st) (refusedSave r)
 refused-left r next lent st = rw (refused r) (refl, refused-writes r (st .rows) lent, refl)
 
--- ts are the entries as the plan has them: those lent, where these are of nine areas
-pub save-left : (s : State) → length (s .partitions .at) ≡ partitionsMax → (es ts : List Entry)
-    → (length es ≡ entriesMax * areasMax → ts ≡ es) → (rs lent : List ℕ) (e : ℕ)
+pub save-left : (s : State) → length (s .partitions .at) ≡ partitionsMax → (es : List Entry) (rs lent : List ℕ) (e : ℕ)
     → Carried lent (storeOf s rs es) (step (save e lent) (storeOf s rs es))
-      (savePlan s (restIn s es rs) ts (length lent) e)
+      (savePlan s (restIn s es rs) (runsOf es (s .partitions) e .at) (length lent) e)
 unfolding step saveAnswer savePlan
-save-left s n es ts same rs lent e = let st = storeOf s rs es in let next = savedOver (checkpointAt e st) lent in
+save-left s n es rs lent e = let st = storeOf s rs es in let next = savedOver (checkpointAt e st) lent in
     rw (sound-is s es rs) (split (sound st)
-  (λ t. let ok = sound-facts st n t .shape in let size = plan-size st ok e in rw (t, same (ok .entries-length))
+  (λ t. let ok = sound-facts st n t .shape in let size = plan-size st ok e in rw t
     (split (within (s .clock .lse) (s .clock .lce) e)
     (λ u. split (ltb (length lent) (length (encoded (checkpointAt e st))))
       (λ f. rw (u, size, f) (refused-left ShortOutput next lent st))
       (λ f. let k = ltb-false (length lent) (length (encoded (checkpointAt e st))) f in
-        let r = runsOf es (s .partitions) e in let l : sizeOfRuns r ≤ length lent = omega (arith, size) in
-        rw (u, f, le-ltb (length lent) (sizeOfRuns r) l) (ap Saved size, plan-writes st ok e lent l, refl)))
+        let ws = runsOf es (s .partitions) e .at in let l : sizeOfRuns ws ≤ length lent = omega (arith, size) in
+        rw (u, f, le-ltb (length lent) (sizeOfRuns ws) l) (ap Saved size, plan-writes st ok e lent l, refl)))
     (λ u. rw u (refused-left OutOfRange next lent st))))
   (λ f. rw f (refused-left Unsound next lent st)))

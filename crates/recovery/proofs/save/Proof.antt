@@ -6,22 +6,20 @@ use contract.Running.{givenOf, tables, tablesOf}
 use denote.Triple.Spec.{tripleOf}
 use denote.Triple.Table.{entered, cited}
 use Rattle.rules.specs.Step.{step, save as save-call}
+use Rattle.plan_save.specs.Runs.{runsOf}
 use Rattle.plan_save.specs.Save.{savePlan, saveWritten}
 use Rattle.store.specs.Kept.{storeOf, Showed}
 use Rattle.walks.proofs.Shown.{number}
 use Rattle.shapes.proofs.Core.{Asks, Rests}
-use Rattle.shapes.proofs.Extent.{whole}
+use Rattle.shapes.proofs.Load.{only-key}
 use Rattle.shapes.proofs.Scan.{Scan, Loads, Core, Wrote, Fin, meets}
 use Rattle.partition_sound.proofs.ask.Symbol as ask
 use Rattle.partition_sound.proofs.ask.Met as ask-thm
 use Rattle.partition_sound.proofs.rest_ok.Symbol as rest
 use Rattle.partition_sound.proofs.rest_ok.Met as rest-thm
-use Rattle.lent.proofs.Types.{table}
-use Rattle.area.specs.Load.{loadedTable}
-use Rattle.area.proofs.Laws.Load.{loaded-table}
-use Rattle.area.proofs.load_all.Symbol as load
-use Rattle.area.proofs.load_all.Met as load-thm
-use Rattle.plan_save.proofs.Types.{saving}
+use Rattle.plan_save.proofs.Types.{saving, runs}
+use Rattle.plan_save.proofs.runs.runs_of.Symbol as load
+use Rattle.plan_save.proofs.runs.runs_of.Met as load-thm
 use Rattle.plan_save.proofs.save_core.Symbol as core
 use Rattle.plan_save.proofs.save_core.Met as core-thm
 use Rattle.plan_save.proofs.write_checkpoint.Symbol as wr
@@ -37,14 +35,14 @@ use Rattle.recovery.proofs.save.Statement as stated
 use Rattle.recovery.proofs.save.Code as code
 
 abbrev shape : Scan
-shape = record { asks = asks; loaded = table; plan = saving; answer = answer; given = number ∷ []; extent = whole;
+shape = record { asks = asks; loaded = runs; plan = saving; answer = answer; given = number ∷ []; key = only-key;
   fromRows = true; load = load.name; core = core.name; wr = wr.name; fin = fin.name;
-  loadOf = loadedTable;
+  loadOf = λ es rs ps e. runsOf es ps e;
   planOf = λ s rest t. savePlan s rest (t .at);
   bytesBy = λ bs rs w. saveWritten w rs bs;
   answerOf = λ w. w .answer;
   Ends = λ s es rs bs e r bs′. Showed (step (save-call e bs) (storeOf s rs es)) r bs′ (storeOf s rs es);
-  ends = λ s g es rs bs κs t. save-left s (state-8 s _ g) es (loadedTable es .at) (loaded-table es) rs bs (t .0) }
+  ends = λ s g es rs bs κs t. save-left s (state-8 s _ g) es rs bs (t .0) }
 
 pub save-spec : {M : Type 1} → stated.statement M
 unfolding code.routine tablesOf
@@ -56,7 +54,7 @@ save-spec 𝓤 H 𝓜 𝓖 𝓡 =
       (ask-thm.met 𝓤 H 𝓜 𝓖 𝓡))
     (cited 𝓤 H (Rests asks 𝓤 H (𝓖 .A)) 𝓜 𝓡 code.env rest.name rest.routine code.calls-partition-sound·rest-ok
       (rest-thm.met 𝓤 H 𝓜 𝓖 𝓡))
-    (cited 𝓤 H (Loads shape 𝓤 H (𝓖 .A)) 𝓜 𝓡 code.env load.name load.routine code.calls-area·load-all
+    (cited 𝓤 H (Loads shape 𝓤 H (𝓖 .A)) 𝓜 𝓡 code.env load.name load.routine code.calls-plan-save·runs·runs-of
       (load-thm.met 𝓤 H 𝓜 𝓖 𝓡))
     (cited 𝓤 H (Core shape 𝓤 H (𝓖 .A)) 𝓜 𝓡 code.env core.name core.routine code.calls-plan-save·save-core
       (core-thm.met 𝓤 H 𝓜 𝓖 𝓡))

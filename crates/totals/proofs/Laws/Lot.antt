@@ -60,10 +60,6 @@ module _ (es : List Entry) (q : Partition) (P : Placed es q) where
       let m = P .few in let i = P .inside in let l = P .entries-length in
       rw n (turned-part f a es (fromOf q) (q .entries) (omega arith) ∙ ap (λ k. foldl f a (part k (q .entries) es)) u)
 
-  -- its entries
-  pub lot-entries : part (fromOf q) (toOf q - fromOf q) es ≡ part (entriesMax * q .area) (q .entries) es
-  lot-entries = let u = from-is in let v = to-is in let n : toOf q - fromOf q ≡ q .entries = omega arith in rw (n, u)
-
 -- ---- what it weighs
 
 module _ (es : List Entry) (rows : List ℕ) (q : Partition) (L : Lies es rows q) where

@@ -20,6 +20,8 @@ use Rattle.shapes.proofs.Two.{Finds2}
 use Rattle.lent.specs.Shapes.{turned}
 use Rattle.area.specs.Load.{partitionIn}
 use Rattle.area.proofs.Types.{place, places}
+use Rattle.area.proofs.place_of.Symbol as place-of-def
+use Rattle.area.proofs.place_of.Met as place-of-thm
 use Rattle.totals.specs.Places.{fromOf, toOf}
 use Rattle.totals.specs.Reach.{noTop, topTurn, cutsOf}
 use Rattle.totals.specs.Weighed.{noTally, tallyTurn}
@@ -53,8 +55,6 @@ use Rattle.partition_sound.proofs.rest.start.Symbol as start-def
 use Rattle.partition_sound.proofs.rest.start.Met as start-thm
 use Rattle.partition_sound.proofs.rest.begin.Symbol as begin-def
 use Rattle.partition_sound.proofs.rest.begin.Met as begin-thm
-use Rattle.partition_sound.proofs.rest.place_of.Symbol as place-of-def
-use Rattle.partition_sound.proofs.rest.place_of.Met as place-of-thm
 use Rattle.partition_sound.proofs.rest.weighed_to.Symbol as weighed-to-def
 use Rattle.partition_sound.proofs.rest.weighed_to.Met as weighed-to-thm
 use Rattle.partition_sound.proofs.rest.cleared_to.Symbol as cleared-to-def
@@ -207,8 +207,7 @@ knowns 𝓤 H 𝓜 𝓖 𝓡 = record {
   no-top = cited 𝓤 H _ 𝓜 𝓡 code.env no-top-def.name _ code.calls-totals·clearing·no-top (no-top-thm.met 𝓤 H 𝓜 𝓖 𝓡);
   no-tally = cited 𝓤 H _ 𝓜 𝓡 code.env no-tally-def.name _ code.calls-totals·shown·no-tally (no-tally-thm.met 𝓤 H 𝓜 𝓖 𝓡);
   begin = cited 𝓤 H _ 𝓜 𝓡 code.env begin-def.name _ code.calls-partition-sound·rest·begin (begin-thm.met 𝓤 H 𝓜 𝓖 𝓡);
-  place-of = cited 𝓤 H _ 𝓜 𝓡 code.env place-of-def.name _ code.calls-partition-sound·rest·place-of
-    (place-of-thm.met 𝓤 H 𝓜 𝓖 𝓡);
+  place-of = cited 𝓤 H _ 𝓜 𝓡 code.env place-of-def.name _ code.calls-area·place-of (place-of-thm.met 𝓤 H 𝓜 𝓖 𝓡);
   from-of = cited 𝓤 H _ 𝓜 𝓡 code.env from-of-def.name _ code.calls-totals·from-of (from-of-thm.met 𝓤 H 𝓜 𝓖 𝓡);
   to-of = cited 𝓤 H _ 𝓜 𝓡 code.env to-of-def.name _ code.calls-totals·to-of (to-of-thm.met 𝓤 H 𝓜 𝓖 𝓡);
   pass = cited 𝓤 H _ 𝓜 𝓡 code.env pass-def.name _ code.calls-partition-sound·pass·pass (pass-thm.met 𝓤 H 𝓜 𝓖 𝓡);

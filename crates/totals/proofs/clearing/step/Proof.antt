@@ -1,12 +1,12 @@
--- `turn` meets its contract. Assumes nothing.
+-- `step` meets its contract. Assumes nothing.
 use Rattle.lists.proofs.Laws.Branches.{tests}
 use Rattle.totals.specs.Reach.{inReach}
-use Rattle.totals.proofs.clearing.turn.Statement.{statement}
-use Rattle.totals.proofs.clearing.turn.Tie as tie
+use Rattle.totals.proofs.clearing.step.Statement.{statement}
+use Rattle.totals.proofs.clearing.step.Tie as tie
 
-pub turn-spec : {M : Type 1} → statement M
+pub step-spec : {M : Type 1} → statement M
 unfolding inReach
-turn-spec =
+step-spec =
     tie.close
     (tie.spec
     (λ c. search tests)
