@@ -1,11 +1,11 @@
 -- The header and the rows of a checkpoint (02: round), read from a lent file and written to a lent output. 02 (v). In
--- order: hasRoom, rowsRead, weightRead, headerPut, rowsPut, afterRows. Laws: proofs/Laws/Rows.antt.
+-- order: hasRoom, rowsRead, weightRead, headerPut, headOf, rowsPut, afterRows. Laws: proofs/Laws/Rows.antt.
 -- Assumes nothing.
 use mathlib.Core.Bool.{Bool, _&&_, cond}
 use mathlib.Core.List.{List, _++_}
-use Prim.Native.Nat.{ℕ, _+_, _*_}
+use Prim.Native.Nat.{ℕ, _+_, _*_, _%_}
 use lib.ListN.{length, drop}
-use lib.Dec.{leb}
+use lib.Dec.{ltb, leb, eqb}
 use Rattle.lists.specs.Lists.{gather, part, over}
 use Rattle.rules.specs.Limits.{rowsMax}
 use Rattle.rules.specs.Weight.{weight}
@@ -30,6 +30,10 @@ weightRead from count file =
 unfoldable pub headerPut : ℕ → List ℕ → List ℕ → List ℕ
 headerPut e counts out =
     cond (hasRoom 0 headerSize out) (over 0 (bytesOf 8 e ++ gather (bytesOf 2) counts) out) out
+
+-- how many of count rows go ahead of the rest, so that the rest begins at a multiple of 16; of fewer than 64 none
+unfoldable pub headOf : ℕ → ℕ → ℕ
+headOf at count = cond (ltb count 64) 0 (cond (eqb (at % 16) 8) 1 0)
 
 -- the bytes of count rows, from index from on, written over the output from byte at on, where they fit; else nothing is
 -- written

@@ -1,24 +1,23 @@
 -- Numbers as bytes, piece by piece. Definitions: rules' numberOf, numbersIn and bytesOf.
 -- In order: the number of two bytes, of two parts; the bytes of a number, a byte more written; a number more read,
--- weighed, written.
+-- weighed, written; those that are left written.
 -- Assumes nothing.
 use mathlib.Core.Path.{_≡_, sym, _∙_}
 use mathlib.Core.List.{List, [], _∷_, _++_, append-nil}
 use Prim.Native.Nat.{ℕ, zero, suc, _+_, _*_, _/_, _%_, _≤_}
-use native.Mathlib.Nat.{mul-assoc, mul-suc}
+use native.Mathlib.Nat.{mul-add, mul-assoc, mul-suc}
 use native.Mathlib.Numerals.{add-one}
 use native.Mathlib.Omega.{arith}
 use lib.ListN.{length, take, drop, getD, set, drop-of-length-le}
-use lib.Seq.{drop-cons, drop-drop, take-nil, drop-nil}
+use lib.Seq.{take-add, drop-cons, drop-drop, take-nil, drop-nil}
 use Rattle.lists.specs.Lists.{gather, part, over}
-use Rattle.lists.proofs.Laws.All.{All-every}
-use Rattle.lists.proofs.Laws.Select.{Wide, length-rows}
+use Rattle.lists.proofs.Laws.Select.{gather-append}
 use Rattle.lists.proofs.Laws.Parts.{length-part}
 use Rattle.lists.proofs.Laws.Places.{from-next}
 use Rattle.lists.proofs.Laws.Over.{over-nil, over-cons, over-append}
 use Rattle.rules.specs.Weight.{milligrams, weight}
 use Rattle.rules.specs.Checkpoint.{numberOf, numbersIn, bytesOf}
-use Rattle.laws.proofs.Laws.Bytes.{length-bytesOf, length-numbersIn}
+use Rattle.laws.proofs.Laws.Bytes.{length-bytesOf, length-numbersIn, length-numbers}
 
 -- ---- the number of bytes
 
@@ -91,8 +90,7 @@ weight-end w k bs e = rw e
 -- those of v bytes behind one of w
 pub write-behind : (w v at x : ℕ) (xs l : List ℕ) → at + (w + v * length xs) ≤ length l
     → over (at + w) (gather (bytesOf v) xs) (over at (bytesOf w x) l) ≡ over at (bytesOf w x ++ gather (bytesOf v) xs) l
-write-behind w v at x xs l h = let n = length-bytesOf w x in
-    let m = length-rows (bytesOf v) v xs (All-every (Wide (bytesOf v) v) (length-bytesOf v) xs) in
+write-behind w v at x xs l h = let n = length-bytesOf w x in let m = length-numbers v xs in
     let e : at + w ≡ at + length (bytesOf w x) = omega arith in
     rw e (sym (over-append at (bytesOf w x) (gather (bytesOf v) xs) l (omega arith)))
 
@@ -106,3 +104,14 @@ write-next w n at i xs l h k = let m : length (part (i + 1) n xs) ≡ n = length
 
 pub write-end : (w k at i : ℕ) (xs l : List ℕ) → k ≡ 0 → over at (gather (bytesOf w) (part i k xs)) l ≡ l
 write-end w k at i xs l e = rw e (over-nil at l)
+
+-- k of xs are written, those from index i on, and n others are to come
+pub write-rest : (w k n at i : ℕ) (xs l : List ℕ) → i + (k + n) ≤ length xs → at + w * (k + n) ≤ length l
+    → over (at + w * k) (gather (bytesOf w) (part (i + k) n xs)) (over at (gather (bytesOf w) (part i k xs)) l)
+      ≡ over at (gather (bytesOf w) (part i (k + n) xs)) l
+write-rest w k n at i xs l h f = let ps = part i k xs in let qs = part (i + k) n xs in
+    let a = gather (bytesOf w) ps in let b = gather (bytesOf w) qs in
+    let p : length a ≡ w * k = length-numbers w ps ∙ rw (length-part i k xs (omega arith)) in
+    let q : length b ≡ w * n = length-numbers w qs ∙ rw (length-part (i + k) n xs (omega arith)) in
+    rw (take-add k n (drop i xs), drop-drop k i xs, gather-append (bytesOf w) ps qs, ← p)
+    (sym (over-append at a b l (omega (arith, mul-add w k n))))
