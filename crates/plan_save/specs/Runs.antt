@@ -1,6 +1,7 @@
 -- What a read-only transaction (01: page) at an epoch is shown of all partitions (01: lots), as runs of rows. 02 (v).
--- In order: runs as words; the run that may still grow, and an entry more; the words of one partition, of all; what a
--- plan reads of them. Laws: proofs/Laws/Joined.antt, proofs/Laws/Laid.antt, proofs/Laws/Shown.antt.
+-- In order: runs as words; the run that may still grow, and an entry more; from where on a partition is gone over, by
+-- what the test of the lots found; the words of one partition, of all; what a plan reads of them.
+-- Laws: proofs/Laws/Joined.antt, proofs/Laws/Laid.antt, proofs/Laws/Shown.antt.
 -- Assumes nothing.
 use mathlib.Core.Bool.{_&&_, cond}
 use mathlib.Core.List.{List, [], _∷_, map}
@@ -19,6 +20,7 @@ use Rattle.lent.specs.Shapes.{turned}
 use Rattle.totals.specs.Places.{fromOf, toOf}
 use Rattle.totals.specs.Reach.{pageReach, noTop, topTurn, cutOf, shows}
 use Rattle.totals.specs.declared.Cut.{Cut}
+use Rattle.partition_sound.specs.declared.Verdict.{Verdict}
 use Rattle.plan_save.specs.declared.runs.Pending.{Pending}
 use Rattle.plan_save.specs.declared.runs.Runs.{Runs}
 
@@ -89,26 +91,33 @@ abbrev pub laidTurn : Cut → Laid → Entry → Laid
 laidTurn c x e =
     let s = pendingTurn c (x .pending) e in record { pending = s; words = set (x .words) (placeIn s) (wordOf s) }
 
--- what the greatest clearing of partition q leaves to a page at e; where its rows lie does not matter here
-abbrev pub pageCut : List Entry → Partition → ℕ → Cut
-pageCut es q e =
-    cutOf (pageReach e) (turned (topTurn (pageReach e)) noTop es (fromOf q) (toOf q - fromOf q)) 0
+-- from where on the entries of partition p, which lies at q, are gone over for a page at e, where v was found: from the
+-- first
+unfoldable pub soughtFrom : Partition → Verdict → ℕ → ℕ → ℕ
+soughtFrom q v p e = fromOf q
 
--- after n entries of partition p
-abbrev pub laidIn : List Entry → Partition → ℕ → ℕ → List ℕ → ℕ → Laid
-laidIn es q e p ws n = turned (laidTurn (pageCut es q e)) (record { pending = firstOf p; words = ws }) es (fromOf q) n
+-- what its greatest clearing leaves to the page; where its rows lie does not matter here
+abbrev pub pageCut : List Entry → Partition → Verdict → ℕ → ℕ → Cut
+pageCut es q v p e =
+    let from = soughtFrom q v p e in
+    cutOf (pageReach e) (turned (topTurn (pageReach e)) noTop es from (toOf q - from)) 0
+
+-- after n of these entries
+abbrev pub laidIn : List Entry → Partition → Verdict → ℕ → ℕ → List ℕ → ℕ → Laid
+laidIn es q v p e ws n =
+    turned (laidTurn (pageCut es q v p e)) (record { pending = firstOf p; words = ws }) es (soughtFrom q v p e) n
 
 -- after the partitions below p
-unfoldable pub laidBelow : List Entry → Partitions → ℕ → ℕ → List ℕ
-laidBelow es ps e zero = noWords
-laidBelow es ps e (suc p) =
-    let q = partitionIn ps p in laidIn es q e p (laidBelow es ps e p) (toOf q - fromOf q) .words
+unfoldable pub laidBelow : List Entry → Partitions → Verdict → ℕ → ℕ → List ℕ
+laidBelow es ps v e zero = noWords
+laidBelow es ps v e (suc p) =
+    let q = partitionIn ps p in laidIn es q v p e (laidBelow es ps v e p) (toOf q - soughtFrom q v p e) .words
 
 abbrev pub runsWith : List ℕ → Runs
 runsWith ws = record { at = ws }
 
-abbrev pub runsOf : List Entry → Partitions → ℕ → Runs
-runsOf es ps e = runsWith (laidBelow es ps e partitionsMax)
+abbrev pub runsOf : List Entry → Partitions → Verdict → ℕ → Runs
+runsOf es ps v e = runsWith (laidBelow es ps v e partitionsMax)
 
 -- ---- what a plan reads of them
 

@@ -4,6 +4,7 @@ use area::row_base;
 use checkpoint::HEADER_SIZE;
 use checkpoint::write::put_header;
 use checkpoint::write::put_rows;
+use partition_sound::Verdict;
 use rules::Answer;
 use rules::Clock;
 use rules::Partitions;
@@ -131,12 +132,18 @@ fn bases_of(ps: Partitions) -> [usize; PARTITIONS_MAX]
     bases
 }
 
-// A save at e, of these runs and with k bytes of output; rest says whether the rest of the store is sound. Refusals, in
-// this order: 5, 4, 3.
-pub fn save_core(state: State, rest: bool, t: Runs, k: usize, e: u64) -> Save
-    ensures { λ r. ⌜ r ≡ savePlan state rest (t .at) k e ⌝ }
+// A save at e, of these runs and with k bytes of output, by what the test of the lots found. Refusals, in this order:
+// 5, 4, 3.
+pub fn save_core(state: State, found: Verdict, t: Runs, k: usize, e: u64) -> Save
+    ensures { λ r. ⌜ r ≡ savePlan state (found .ok) (t .at) k e ⌝ }
 {
-    let sound = parts_sound(rest, state.clock, state.writers, &state.deps, state.readers);
+    let sound = parts_sound(
+        found.ok,
+        state.clock,
+        state.writers,
+        &state.deps,
+        state.readers,
+    );
     if !sound {
         return refused(Refusal::Unsound);
     }

@@ -1,10 +1,13 @@
 // What a read-only transaction (01: page) at an epoch is shown of all partitions (01: lots), as runs of rows. The rows
-// of an entry are shown together or not at all, so the entries alone tell. Shown rows that stand together are one run.
+// of an entry are shown together or not at all, so the entries alone tell. From where on those of a partition are gone
+// over is by what the test of the lots found. Shown rows that stand together are one run.
 use crate::RUNS_MAX;
 use crate::WORDS_MAX;
 use area::place_of;
 use lent::read_entry;
+use partition_sound::Verdict;
 use rules::Entry;
+use rules::Partition;
 use rules::Partitions;
 use rules::limits::PARTITIONS_MAX;
 use totals::Cut;
@@ -19,7 +22,7 @@ ghost use mathlib.Core.Path.{_≡_};
 ghost use Prim.Native.Nat.{_≤_};
 ghost use Rattle.totals.specs.Reach.{pageReach};
 ghost use Rattle.plan_save.specs.Runs.{noWords, firstOf, nextOf, pendingTurn, placeIn, wordOf, fromIn, widthIn};
-ghost use Rattle.plan_save.specs.Runs.{runsWith, runsOf};
+ghost use Rattle.plan_save.specs.Runs.{soughtFrom, runsWith, runsOf};
 
 // A run is one word: 65,536 times the row of its partition that it begins at, and the row that it ends before. Those of
 // partition p stand from place 33 * p on, and behind them a word without rows.
@@ -133,6 +136,13 @@ pub(crate) fn width_in(w: u32) -> usize
     end - from
 }
 
+// From where on the entries of partition p, which lies at q, are gone over for a page at e, by what was found.
+fn sought_from(q: Partition, found: Verdict, p: usize, e: u64) -> usize
+    ensures { λ r. ⌜ r ≡ soughtFrom q found p e ⌝ }
+{
+    from_of(q)
+}
+
 fn to_runs(at: [u32; WORDS_MAX]) -> Runs
     ensures { λ r. ⌜ r ≡ runsWith at ⌝ }
 {
@@ -141,8 +151,8 @@ fn to_runs(at: [u32; WORDS_MAX]) -> Runs
 
 // Of each partition first the greatest clearing, then the rows that it leaves: a turn writes the pending run to its
 // place, as far as it has grown. The rows are lent to every pass; they are not read here.
-pub fn runs_of(entries: &[Entry], rows: &[u64], ps: Partitions, e: u64) -> Runs
-    ensures { λ r. ⌜ r ≡ runsOf (now (entries .entry)) ps e ⌝ }
+pub fn runs_of(entries: &[Entry], rows: &[u64], ps: Partitions, found: Verdict, e: u64) -> Runs
+    ensures { λ r. ⌜ r ≡ runsOf (now (entries .entry)) ps found e ⌝ }
 {
     let reach = page_at(e);
     let none = no_top();
@@ -150,7 +160,7 @@ pub fn runs_of(entries: &[Entry], rows: &[u64], ps: Partitions, e: u64) -> Runs
     let mut a = no_words();
     while p < PARTITIONS_MAX {
         let q = place_of(ps, p);
-        let from = from_of(q);
+        let from = sought_from(q, found, p, e);
         let to = to_of(q);
         let top = find(entries, rows, reach, none, from, to);
         let cut = cut_of(reach, top, 0);

@@ -31,9 +31,9 @@ pub fn save(state: State, entries: &[Entry], rows: &[u64], out: &mut [u8], epoch
 {
     let k = out.len();
     let a = partition_sound::ask(state.clock, state.writers, state.partitions, state.totals);
-    let rest = partition_sound::rest_ok(entries, rows, a);
-    let t = plan_save::runs::runs_of(entries, rows, state.partitions, epoch);
-    let w = plan_save::save_core(state, rest, t, k, epoch);
+    let found = partition_sound::rest_of(entries, rows, a);
+    let t = plan_save::runs::runs_of(entries, rows, state.partitions, found, epoch);
+    let w = plan_save::save_core(state, found, t, k, epoch);
     plan_save::write_checkpoint(out, rows, w);
     plan_save::save_done(w)
 }

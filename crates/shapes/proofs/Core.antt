@@ -3,6 +3,7 @@
 --     state, clock, writers, partitions, totals      types.        books     the machine value of the books
 --     Ask              the two callees: what the lots' test needs of the books, and the test
 --     Weigh            the same where the first is passed values too, and the test finds a struct: what lands as well
+--     plainly          a test that only asks, as one that finds a flag
 --     weighedParts, partsWith      the types of what the first is passed: parts of the books, and values; these
 --     askedParts, partsOf          the same without values
 --     Asks, Rests      the contracts of an Ask.        asksOf, restOf      what they yield, of the books
@@ -115,6 +116,10 @@ pub record Weigh (n : List Shown) : Type 2 where
   pub rest : Name
   pub askedOf : Of (weighedParts n) (asked .row .Denot)
   pub foundOf : List Entry → List ℕ → asked .row .Denot → found .row .Denot
+
+abbrev pub plainly : Ask → Weigh []
+plainly q = record { asked = q .asked; found = flag; ask = q .ask; rest = q .rest; askedOf = q .askedOf; foundOf = q
+    .soundOf }
 
 module _ (q : Ask) where
   abbrev pub asksOf : State → q .asked .row .Denot

@@ -1,7 +1,9 @@
--- What differs between the walks of two Scans: whether the load and the writer are lent the rows.
+-- What differs between the walks of two Scans: whether the load and the writer are lent the rows. Where they are, the
+-- load is passed what was found too.
 --     rowed, onward    what depends on the rows where b says so, and the operands with the rows among them
---     handTys          what the load is passed behind what it is lent: the partitions, and a number
---     Taken, taking    the load's contract, and its call
+--     hands, handed    what the load is passed behind what it is lent: the partitions, what was found, a number; and
+--                      these as operands
+--     loadBy           what the load yields.        Taken, taking    its contract, and its call
 --     Written, writing     the writer's contract, and its call
 -- Assumes `Given`.
 use mathlib.Core.Path.{_≡_, refl}
@@ -16,7 +18,7 @@ use prog.Wp.{Heap, Env, Calls, Loops}
 use ghost.Atoms.{Atoms}
 use sound.WpLaws.{FmC}
 use types.Kit.{Given, Item, ‵, nth, Post, runs, lands, Sq, Go, _$_, !, move, drop}
-use types.Run.{Opd, Opds, and-then, no-more}
+use types.Run.{Opd, and-then, no-more}
 use denote.Laws.{Is}
 use denote.Builtin.{u64, u8}
 use denote.Slice.{Room}
@@ -42,33 +44,49 @@ onward true o rows os = o ∷ rows ∷ os
 onward false o rows os = o ∷ os
 
 -- ---- the load, which is lent the entries
-abbrev pub handTys : List Shown
-handTys = partitions ∷ number ∷ []
+abbrev pub hands : Bool → Shown → List Shown
+hands true D = partitions ∷ D ∷ number ∷ []
+hands false D = partitions ∷ number ∷ []
 
-module _ (X : Shown) where
-  abbrev pub Taken : {M : Type 1} (𝓤 : URA M) (b : Bool) → (List Entry → With b (Of handTys (X .row .Denot))) → (H :
+abbrev pub handed : Bool → Operand → Operand → Operand → List Operand
+handed true o v k = o ∷ v ∷ k ∷ []
+handed false o v k = o ∷ k ∷ []
+
+-- D is what was found
+module _ (D X : Shown) where
+  abbrev pub loadBy : (b : Bool) → With b (Of (hands b D) (X .row .Denot)) → List ℕ → Partitions → D .row .Denot → ℕ → X
+      .row .Denot
+  loadBy true f rs ps v k = f rs ps v k
+  loadBy false f rs ps v k = f ps k
+
+  abbrev pub Taken : {M : Type 1} (𝓤 : URA M) (b : Bool) → (List Entry → With b (Of (hands b D) (X .row .Denot))) → (H :
       Heap 𝓤) (A : Atoms 𝓤) → Contract 𝓤
-  Taken 𝓤 true F = Finds2 𝓤 X handTys T.the-row u64 F
-  Taken 𝓤 false F = Finds 𝓤 X handTys T.the-row F
+  Taken 𝓤 true F = Finds2 𝓤 X (hands true D) T.the-row u64 F
+  Taken 𝓤 false F = Finds 𝓤 X (hands false D) T.the-row F
 
-  -- j is where the operands are read
-  module _ {M : Type 1} {𝓤 : URA M} {H : Heap 𝓤} {A : Atoms 𝓤} {W : Given 𝓤 H A} {j : Item 𝓤} {Γ : List (Item 𝓤)} {E :
+  -- j is where the operands are read, and l where what was found is
+  module _ {M : Type 1} {𝓤 : URA M} {H : Heap 𝓤} {A : Atoms 𝓤} {W : Given 𝓤 H A} {j l : Item 𝓤} {Γ : List (Item 𝓤)} {E :
       Env 𝓤 H} {C : Calls 𝓤 H} {Λ : Loops 𝓤 H} {q : Post 𝓤 H} {f : Name} {d : Place} {rest : Body} (fm : FmC 𝓤 H (W
       .laws) C) (x : Lent T.the-row) (y : Lent u64) (ps : Partitions) (gp : Is (partitions .row) ps (partitions .val ps
-      ∷ [])) (k : ℕ) (gk : Is u64 k (vint w64 k ∷ [])) {o₁ o₂ : Operand} {os : List Operand} where
-    pub taking : (b : Bool) (F : List Entry → With b (Of handTys (X .row .Denot))) → Triple 𝓤 (C f) (Taken 𝓤 b F H A)
+      ∷ [])) (v : D .row .Denot) (gv : Is (D .row) v (D .val v ∷ [])) (k : ℕ) (gk : Is u64 k (vint w64 k ∷ [])) {o₁ o₂
+      o₃ o₄ o₅ : Operand} where
+    pub taking : (b : Bool) (F : List Entry → With b (Of (hands b D) (X .row .Denot))) → Triple 𝓤 (C f) (Taken 𝓤 b F H
+        A)
         → ((Δ : List (Item 𝓤)) (i : ℕ) → nth 𝓤 H A i Δ ≡ j → Opd (Go {0}) W Δ E o₁ (held x))
         → ((Δ : List (Item 𝓤)) (i : ℕ) → nth 𝓤 H A i Δ ≡ j → Opd (Go {0}) W Δ E o₂ (held y))
-        → ((Δ : List (Item 𝓤)) (i : ℕ) → nth 𝓤 H A i Δ ≡ j → Opds (Go {0}) W Δ E os (partitions .val ps ∷ vint w64 k ∷
-            []))
-        → (let z = rowed b (F (x .list)) (y .list) ps k in Is (X .row) z (X .val z ∷ [])
-          → Sq W (‵ (token x) ∷ ‵ (shr x) ∷ ‵ (token y) ∷ ‵ (shr y) ∷ j ∷ Γ) (lands C Λ E d (X .val z) rest q))
-        → Sq W (‵ (token x) ∷ ‵ (shr x) ∷ ‵ (token y) ∷ ‵ (shr y) ∷ j ∷ Γ) (runs C Λ E (seq (call f (onward b o₁ o₂ os)
-            d) rest) q)
-    taking true F known os₁ os₂ os₃ = find2-call fm T.the-row u64 X handTys F known x y (ps, (k, tt)) (gp, (gk, tt)) (λ
-        _ _ _. and-then ! (os₁ _ 3 refl) (and-then ! (os₂ _ 3 refl) (os₃ _ 3 refl)))
-    taking false F known os₁ os₂ os₃ = find-call fm T.the-row X handTys F known x (ps, (k, tt)) (gp, (gk, tt)) (λ _ _.
-        and-then ! (os₁ _ 4 refl) (os₃ _ 4 refl))
+        → ((Δ : List (Item 𝓤)) (i : ℕ) → nth 𝓤 H A i Δ ≡ j → Opd (Go {0}) W Δ E o₃ (partitions .val ps))
+        → ((Δ : List (Item 𝓤)) (i : ℕ) → nth 𝓤 H A i Δ ≡ l → Opd (Go {0}) W Δ E o₄ (D .val v))
+        → ((Δ : List (Item 𝓤)) (i : ℕ) → nth 𝓤 H A i Δ ≡ j → Opd (Go {0}) W Δ E o₅ (vint w64 k))
+        → (let z = loadBy b (F (x .list)) (y .list) ps v k in Is (X .row) z (X .val z ∷ [])
+          → Sq W (‵ (token x) ∷ ‵ (shr x) ∷ ‵ (token y) ∷ ‵ (shr y) ∷ j ∷ l ∷ Γ) (lands C Λ E d (X .val z) rest q))
+        → Sq W (‵ (token x) ∷ ‵ (shr x) ∷ ‵ (token y) ∷ ‵ (shr y) ∷ j ∷ l ∷ Γ) (runs C Λ E (seq (call f (onward b o₁ o₂
+            (handed b o₃ o₄ o₅)) d) rest) q)
+    taking true F known os₁ os₂ os₃ os₄ os₅ = find2-call fm T.the-row u64 X (hands true D) F known x y (ps, (v, (k,
+        tt))) (gp, (gv, (gk, tt))) (λ _ _ _. and-then ! (os₁ _ 3 refl) (and-then ! (os₂ _ 3 refl) (and-then ! (os₃ _ 3
+        refl) (and-then ! (os₄ _ 4 refl) (and-then ! (os₅ _ 3 refl) (no-more !))))))
+    taking false F known os₁ os₂ os₃ os₄ os₅ = find-call fm T.the-row X (hands false D) F known x (ps, (k, tt)) (gp,
+        (gk, tt)) (λ _ _. and-then ! (os₁ _ 4 refl) (and-then ! (os₃ _ 4 refl) (and-then ! (os₅ _ 4 refl) (no-more
+        !))))
 
 -- ---- the writer, which is lent the bitmap
 module _ (P : Shown) where

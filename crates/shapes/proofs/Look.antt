@@ -57,8 +57,8 @@ use Rattle.walks.proofs.Values.{Nums, applied, spells, spelt, vals, Fits, tells
 use Rattle.walks.proofs.Values.{args-after}
 use Rattle.walks.proofs.Shown.{Shown, number, flag}
 use Rattle.walks.proofs.Calls.{Yields, yield-call}
-use Rattle.shapes.proofs.Core.{state, books, Ask, Weigh, weighedParts, partsWith, weighedFields, restOf}
-use Rattle.shapes.proofs.Core.{weighsOf, foundBy, Asks, Rests, Weighs, Founds, in-books-with, ask-args}
+use Rattle.shapes.proofs.Core.{state, books, Ask, Weigh, plainly, weighedParts, partsWith, weighedFields}
+use Rattle.shapes.proofs.Core.{restOf, weighsOf, foundBy, Asks, Rests, Weighs, Founds, in-books-with, ask-args}
 use Rattle.shapes.proofs.Two.{find2-call}
 
 -- n are the values
@@ -95,11 +95,6 @@ word = tyInt w64
 abbrev params : List Shown → List Ty
 params n = K′.mir ∷ sliceTy (tyRef (named 0) imm (pointee (T.the-row .written))) ∷ sliceTy (tyRef (named 1) imm word) ∷
     tys n
-
--- a test that only asks, as one that finds a flag
-abbrev plainly : Ask → Weigh []
-plainly q = record { asked = q .asked; found = flag; ask = q .ask; rest = q .rest; askedOf = q .askedOf; foundOf = q
-    .soundOf }
 
 -- what is asked, what is found
 abbrev tests : {m : List Shown} → Weigh m → List Ty

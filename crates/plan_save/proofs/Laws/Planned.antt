@@ -22,6 +22,7 @@ use Rattle.laws.proofs.Laws.Checkpoint.{bodiesOf, length-encoded}
 use Rattle.laws.proofs.Laws.WellFormed.{StoreOk}
 use Rattle.area.specs.Area.{baseOf}
 use Rattle.area.specs.Load.{partitionIn}
+use Rattle.partition_sound.specs.declared.Verdict.{Verdict}
 use Rattle.plan_save.specs.Runs.{runsIn, runsOf, wordsAt}
 use Rattle.plan_save.specs.Save.{basesOf, refusedSave, sizeOfRuns, acceptedSave, saveWritten}
 use Rattle.laws.proofs.Laws.Each.{each-at}
@@ -38,12 +39,12 @@ gather-gather : {A B C : Type 0} (f : B → List C) (g : A → List B) (xs : Lis
 gather-gather f g [] = refl
 gather-gather f g (x ∷ xs) = gather-append f (g x) (gather g xs) ∙ rw (gather-gather f g xs)
 
-module _ (st : Store) (ok : StoreOk st) (e : ℕ) where
+module _ (st : Store) (ok : StoreOk st) (v : Verdict) (e : ℕ) where
   abbrev ps : Partitions
   ps = st .state .partitions
 
   abbrev ws : List ℕ
-  ws = runsOf (st .entries) ps e .at
+  ws = runsOf (st .entries) ps v e .at
 
   abbrev c : Checkpoint
   c = checkpointAt e st
@@ -66,16 +67,16 @@ module _ (st : Store) (ok : StoreOk st) (e : ℕ) where
 
   holds : (i : ℕ) → i < partitionsMax
       → gather (runRows (st .rows) (getD (basesOf ps) i 0)) (runsIn (wordsAt ws i)) ≡ shownAt e i st
-  holds i h = rw (base-at i h) (rows-at st ok e i h)
+  holds i h = rw (base-at i h) (rows-at st ok v e i h)
 
   bodies : gather (bytesOf 8) (gather (λ p. shownAt e p st) partitionNumbers) ≡ bodiesOf c
   unfolding checkpointAt
   bodies = gather-gather (bytesOf 8) (λ p. shownAt e p st) partitionNumbers
 
   pub plan-size : sizeOfRuns ws ≡ length (encoded c)
-  plan-size = let n = length-encoded c eight in let s = ap bodySize (counts-are st ok e) in omega arith
+  plan-size = let n = length-encoded c eight in let s = ap bodySize (counts-are st ok v e) in omega arith
 
   pub plan-writes : (out : List ℕ) → sizeOfRuns ws ≤ length out
       → saveWritten (acceptedSave ps ws e) (st .rows) out ≡ savedOver c out
   plan-writes out room = written (acceptedSave ps ws e) (st .rows) out c (λ p. shownAt e p st) eight epoch-same
-      (counts-are st ok e) there (ok .rows-length) (runs-ok st ok e) holds bodies refl room
+      (counts-are st ok v e) there (ok .rows-length) (runs-ok st ok v e) holds bodies refl room

@@ -1,8 +1,9 @@
 -- The runs of a sound store's partitions (01: lots) hold what a read-only transaction (01: page) is shown of them.
 -- Definitions: specs/Runs.antt; rules/specs/Hides.antt, rules/specs/Recovery.antt.
--- In order: a part that is kept; the partitions below p; the rows of one partition; how many.
+-- In order: a part that is kept; from where on a partition is gone over; the partitions below p; the rows of one
+-- partition; how many.
 -- Assumes nothing.
-use mathlib.Core.Path.{_≡_, sym, _∙_, ap}
+use mathlib.Core.Path.{_≡_, refl, sym, _∙_, ap}
 use mathlib.Core.List.{List, foldl, map}
 use Prim.Native.Nat.{ℕ, zero, suc, _+_, _-_, _*_, _≤_, _<_}
 use native.Mathlib.Omega.{arith}
@@ -22,12 +23,15 @@ use Rattle.rules.specs.declared.Partition.{Partition}
 use Rattle.rules.specs.declared.Partitions.{Partitions}
 use Rattle.laws.proofs.Laws.Epochs.{epoch-facts}
 use Rattle.laws.proofs.Laws.WellFormed.{StoreOk, partition-entries}
+use Rattle.lent.specs.Shapes.{turned}
+use Rattle.totals.specs.Places.{fromOf, toOf}
 use Rattle.totals.specs.Reach.{pageReach, noTop, topTurn, cutOf, shows}
 use Rattle.totals.specs.declared.Cut.{Cut}
 use Rattle.totals.proofs.Laws.Page.{page-shows}
 use Rattle.totals.proofs.Laws.Lot.{Lies, lot-turned, topOf, lot-shown}
+use Rattle.partition_sound.specs.declared.Verdict.{Verdict}
 use Rattle.plan_save.specs.Runs.{runsIn, sizeOf, runsMax, wordsMax, noWords, firstOf, wordOf, Laid, laidTurn}
-use Rattle.plan_save.specs.Runs.{pageCut, laidBelow, runsOf, wordsAt, countsOf}
+use Rattle.plan_save.specs.Runs.{soughtFrom, pageCut, laidBelow, runsOf, wordsAt, countsOf}
 use Rattle.plan_save.proofs.Laws.Joined.{joined, RunOk, joined-ok, runRows, joined-rows, size-rows}
 use Rattle.plan_save.proofs.Laws.Laid.{Stands, Lays, lays}
 
@@ -38,9 +42,15 @@ part-kept n k m xs ys h e =
     let f = sym (take-take (k + m) n xs h) ∙ (ap (take (k + m)) e ∙ take-take (k + m) n ys h) in
     sym (drop-take k m xs) ∙ (ap (drop k) f ∙ drop-take k m ys)
 
--- ---- a sound store
+-- ---- from where on a partition is gone over
 
-module _ (st : Store) (ok : StoreOk st) (e : ℕ) where
+sought-all : (q : Partition) (v : Verdict) (p e : ℕ) → soughtFrom q v p e ≡ fromOf q
+unfolding soughtFrom
+sought-all q v p e = refl
+
+-- ---- a sound store, of which v was found
+
+module _ (st : Store) (ok : StoreOk st) (v : Verdict) (e : ℕ) where
   abbrev es : List Entry
   es = st .entries
 
@@ -48,10 +58,10 @@ module _ (st : Store) (ok : StoreOk st) (e : ℕ) where
   ps = st .state .partitions
 
   abbrev cut : ℕ → Cut
-  cut p = pageCut es (partitionAt p st) e
+  cut p = pageCut es (partitionAt p st) v p e
 
   abbrev runs : ℕ → List ℕ
-  runs p = laidBelow es ps e p
+  runs p = laidBelow es ps v e p
 
   lies : (p : ℕ) → p < partitionsMax → Lies es (st .rows) (partitionAt p st)
   lies p h = let o = partition-entries p st (ok .partition p h) in let n = ok .partition p h .entry-count in
@@ -62,6 +72,13 @@ module _ (st : Store) (ok : StoreOk st) (e : ℕ) where
   few : (p : ℕ) → p < partitionsMax → length (entriesAt p st) ≤ entriesMax
   few p h = let q = partitionAt p st in let f = lies p h .placed .few in
       omega (arith, length-take (q .entries) (drop (entriesMax * q .area) es))
+
+  -- to go over them from there on is to go over all
+  sought-turned : {X : Type 0} (p : ℕ) → p < partitionsMax → (f : X → Entry → X) (a : X)
+      → let q = partitionAt p st in turned f a es (soughtFrom q v p e) (toOf q - soughtFrom q v p e)
+        ≡ foldl f a (entriesAt p st)
+  sought-turned p h f a = let q = partitionAt p st in
+      ap (λ i. turned f a es i (toOf q - i)) (sought-all q v p e) ∙ lot-turned es q (lies p h .placed) f a
 
   -- ---- the partitions below p: their runs are laid, and the places of the others are blank
 
@@ -93,7 +110,7 @@ module _ (st : Store) (ok : StoreOk st) (e : ℕ) where
     -- as the code lays them
     laid-lot : runs (suc p) ≡ foldl (laidTurn (cut p)) start (entriesAt p st) .words
     unfolding laidBelow
-    laid-lot = ap (λ x. x .words) (lot-turned es (partitionAt p st) (lies p h .placed) (laidTurn (cut p))
+    laid-lot = ap (λ x. x .words) (sought-turned p h (laidTurn (cut p))
         (record { pending = firstOf p; words = runs p }))
       ∙ ap (λ s. foldl (laidTurn (cut p)) (record { pending = s; words = runs p }) (entriesAt p st) .words) first-is
 
@@ -129,7 +146,7 @@ module _ (st : Store) (ok : StoreOk st) (e : ℕ) where
     q = partitionAt p st
 
     abbrev own : List ℕ
-    own = wordsAt (runsOf es ps e .at) p
+    own = wordsAt (runsOf es ps v e .at) p
 
     runs-are : runsIn own ≡ joined (cut p) 0 0 (entriesAt p st)
     runs-are = below partitionsMax (omega arith) .laid p h
@@ -138,7 +155,7 @@ module _ (st : Store) (ok : StoreOk st) (e : ℕ) where
     same : (n j : ℕ) → shows (cut p) n j
         ≡ shows (cutOf (pageReach e) (topOf es (st .rows) q (lies p h) (pageReach e)) (rowsMax * q .area)) n j
     unfolding shows
-    same n j = rw (lot-turned es q (lies p h .placed) (topTurn (pageReach e)) noTop)
+    same n j = rw (sought-turned p h (topTurn (pageReach e)) noTop)
 
     seen : All (λ (s : Span). 1 ≤ s .epoch) (spansAt p st)
     seen = All-imp _ _ (λ s t. epoch-facts (managerOf st) (s .epoch) t .low) (spansAt p st)
@@ -157,7 +174,7 @@ module _ (st : Store) (ok : StoreOk st) (e : ℕ) where
     size-at = let l = ok .rows-length in let i = lies p h .placed .inside in
         size-rows (st .rows) (rowsMax * q .area) (omega arith) (runsIn own) runs-ok ∙ ap length rows-at
 
-  pub counts-are : countsOf (runsOf es ps e .at) ≡ map length (checkpointAt e st .rows)
+  pub counts-are : countsOf (runsOf es ps v e .at) ≡ map length (checkpointAt e st .rows)
   unfolding countsOf checkpointAt
   counts-are = rw (size-at 0 (omega arith), size-at 1 (omega arith), size-at 2 (omega arith), size-at 3 (omega arith),
       size-at 4 (omega arith), size-at 5 (omega arith), size-at 6 (omega arith), size-at 7 (omega arith))

@@ -1,5 +1,5 @@
 -- What a save decides by value is what step leaves. Definitions: plan_save/specs/Save.antt.
--- In order: a save carried out, a refusal, save-left.
+-- In order: a save carried out, what is found before it, a refusal, save-left.
 -- Elsewhere: what the plan of a sound store writes (plan_save/proofs/Laws/Planned.antt).
 -- Assumes nothing.
 use mathlib.Core.Path.{_≡_, refl, ap}
@@ -24,16 +24,23 @@ use Rattle.rules.specs.declared.Entry.{Entry}
 use Rattle.rules.specs.declared.State.{State}
 use Rattle.laws.proofs.Laws.Answers.{refused}
 use Rattle.laws.proofs.Laws.Totals.{sound-facts}
+use Rattle.partition_sound.specs.Asked.{askedOf}
+use Rattle.partition_sound.specs.Rest.{restFound}
+use Rattle.partition_sound.specs.declared.Verdict.{Verdict}
 use Rattle.plan_save.specs.Runs.{runsOf}
 use Rattle.plan_save.specs.Save.{refusedSave, sizeOfRuns, savePlan, saveWritten}
 use Rattle.plan_save.specs.declared.Save.{Save}
 use Rattle.plan_save.proofs.Laws.Planned.{refused-writes, plan-size, plan-writes}
 use Rattle.store.specs.Kept.{storeOf, Showed}
-use Rattle.store.proofs.Laws.Kept.{restIn, sound-is}
+use Rattle.store.proofs.Laws.Kept.{sound-is}
 
 -- a save of the store st carried out by a plan, with this output lent
 abbrev pub Carried : List ℕ → Store → Outcome → Save → Type 0
 Carried lent st out w = Showed out (w .answer) (saveWritten w (st .rows) lent) st
+
+-- what the test of the lots finds, where nothing lands
+abbrev foundIn : State → List Entry → List ℕ → Verdict
+foundIn s es rs = restFound es rs (askedOf (s .clock) (s .writers) (s .partitions) (s .totals))
 
 refused-left : (r : Refusal) (next lent : List ℕ) (st : Store)
     → Carried lent st (writeOutcome (Refused r) next lent st) (refusedSave r)
@@ -41,16 +48,17 @@ refused-left r next lent st = rw (refused r) (refl, refused-writes r (st .rows) 
 
 pub save-left : (s : State) → length (s .partitions .at) ≡ partitionsMax → (es : List Entry) (rs lent : List ℕ) (e : ℕ)
     → Carried lent (storeOf s rs es) (step (save e lent) (storeOf s rs es))
-      (savePlan s (restIn s es rs) (runsOf es (s .partitions) e .at) (length lent) e)
+      (let v = foundIn s es rs in savePlan s (v .ok) (runsOf es (s .partitions) v e .at) (length lent) e)
 unfolding step saveAnswer savePlan
-save-left s n es rs lent e = let st = storeOf s rs es in let next = savedOver (checkpointAt e st) lent in
+save-left s n es rs lent e = let st = storeOf s rs es in let v = foundIn s es rs in
+    let next = savedOver (checkpointAt e st) lent in
     rw (sound-is s es rs) (split (sound st)
-  (λ t. let ok = sound-facts st n t .shape in let size = plan-size st ok e in rw t
+  (λ t. let ok = sound-facts st n t .shape in let size = plan-size st ok v e in rw t
     (split (within (s .clock .lse) (s .clock .lce) e)
     (λ u. split (ltb (length lent) (length (encoded (checkpointAt e st))))
       (λ f. rw (u, size, f) (refused-left ShortOutput next lent st))
       (λ f. let k = ltb-false (length lent) (length (encoded (checkpointAt e st))) f in
-        let ws = runsOf es (s .partitions) e .at in let l : sizeOfRuns ws ≤ length lent = omega (arith, size) in
-        rw (u, f, le-ltb (length lent) (sizeOfRuns ws) l) (ap Saved size, plan-writes st ok e lent l, refl)))
+        let ws = runsOf es (s .partitions) v e .at in let l : sizeOfRuns ws ≤ length lent = omega (arith, size) in
+        rw (u, f, le-ltb (length lent) (sizeOfRuns ws) l) (ap Saved size, plan-writes st ok v e lent l, refl)))
     (λ u. rw u (refused-left OutOfRange next lent st))))
   (λ f. rw f (refused-left Unsound next lent st)))

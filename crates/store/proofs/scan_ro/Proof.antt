@@ -10,7 +10,7 @@ use Rattle.rules.specs.declared.Reader.the-variants.{Ro}
 use Rattle.plan_scan.specs.Scan.{roLook, copied}
 use Rattle.store.specs.Kept.{storeOf, Showed}
 use Rattle.walks.proofs.Shown.{number}
-use Rattle.shapes.proofs.Core.{Asks, Rests}
+use Rattle.shapes.proofs.Core.{Asks, Rests, plainly}
 use Rattle.shapes.proofs.Load.{second-key}
 use Rattle.shapes.proofs.Scan.{Scan, Loads, Core, Wrote, Fin, meets}
 use Rattle.partition_sound.proofs.ask.Symbol as ask
@@ -37,8 +37,8 @@ use Rattle.store.proofs.scan_ro.Statement as stated
 use Rattle.store.proofs.scan_ro.Code as code
 
 abbrev shape : Scan
-shape = record { asks = asks; loaded = area; plan = look; answer = answer; given = number ∷ number ∷ []; key =
-  second-key; fromRows = false; load = load.name; core = core.name; wr = wr.name; fin = fin.name;
+shape = record { test = plainly asks; loaded = area; plan = look; answer = answer; given = number ∷ number ∷ [];
+  key = second-key; fromRows = false; load = load.name; core = core.name; wr = wr.name; fin = fin.name;
   loadOf = loadedArea;
   planOf = roLook;
   bytesBy = λ bs w. copied (w .count) (w .bits) bs;

@@ -1,6 +1,6 @@
 -- `runs_of` meets its contract: a walk of its MIR, by hand, with a loop in a loop. The words' elements stand apart in
--- both. A turn of the outer finds where a partition lies and its greatest clearing; one of the inner reads an entry,
--- takes it to the pending run, and stores the word of that at its place.
+-- both. A turn of the outer finds where a partition lies, from where on it is gone over, and its greatest clearing; one
+-- of the inner reads an entry, takes it to the pending run, and stores the word of that at its place.
 -- Assumes nothing.
 mod Callees
 use mathlib.Core.Path.{_≡_, refl, sym, _∙_, ap, subst}
@@ -67,14 +67,16 @@ use Rattle.lent.specs.Shapes.{turned}
 use Rattle.lent.proofs.Types.{entry}
 use Rattle.area.specs.Load.{partitionIn}
 use Rattle.area.proofs.Types.{place, places}
-use Rattle.totals.specs.Places.{fromOf, toOf}
+use Rattle.totals.specs.Places.{toOf}
 use Rattle.totals.specs.Reach.{pageReach, noTop, cutOf}
 use Rattle.totals.specs.declared.Cut.{Cut}
 use Rattle.totals.specs.declared.Reach.{Reach}
 use Rattle.totals.specs.declared.Top.{Top}
 use Rattle.totals.proofs.Types.{reach, top}
+use Rattle.partition_sound.specs.declared.Verdict.{Verdict}
+use Rattle.partition_sound.proofs.Types.{verdict}
 use Rattle.plan_save.specs.Runs.{wordsMax, noWords, firstOf, pendingTurn, placeIn, wordOf, Laid, laidIn}
-use Rattle.plan_save.specs.Runs.{laidBelow, runsWith}
+use Rattle.plan_save.specs.Runs.{soughtFrom, laidBelow, runsWith}
 use Rattle.plan_save.specs.declared.runs.Pending.{Pending}
 use Rattle.plan_save.specs.declared.runs.Runs.{Runs}
 use Rattle.plan_save.proofs.Types.{pending, word, words, runs as laid-runs, cut}
@@ -85,23 +87,23 @@ use Rattle.plan_save.proofs.runs.runs_of as f
 use Rattle.plan_save.proofs.runs.runs_of.Statement as stated
 use Rattle.plan_save.proofs.runs.runs_of.Code as code
 
--- the result, the parameters, what stands before the loop, and p; behind the words, in local 8, what a turn of the
+-- the result, the parameters, what stands before the loop, and p; behind the words, in local 9, what a turn of the
 -- outer loop holds; what stands in the inner, and the others
 abbrev firsts : List Local
-firsts = take 8 (code.function .locals)
+firsts = take 9 (code.function .locals)
 
 abbrev mids : List Local
-mids = take 7 (dropped 9 (code.function .locals))
+mids = take 7 (dropped 10 (code.function .locals))
 
 abbrev others : List Local
-others = dropped 16 (code.function .locals)
+others = dropped 17 (code.function .locals)
 
 -- how a turn of the outer loop ends
 abbrev last-part : Body
-last-part = assign (spot 7 []) (op2 (add unsigned) (copy (spot 7 [])) (int w64 1))
+last-part = assign (spot 8 []) (op2 (add unsigned) (copy (spot 8 [])) (int w64 1))
 
 abbrev given : List Shown
-given = places ∷ number ∷ []
+given = places ∷ verdict ∷ number ∷ []
 
 abbrev slots : List (Slot 2)
 slots = shrSliceOf (0 ∷ []) tt (plain (λ _. T.the-row)) ∷ shrSliceOf (1 ∷ []) tt (plain (λ _. u64)) ∷ values 2 given
@@ -125,7 +127,7 @@ module _ {M : Type 1} (𝓤 : URA M) (H : Heap 𝓤) (A : Atoms 𝓤) (W : Given
   fm = fmOf 𝓤 H (W .laws) 𝓣
 
   -- the entries and the rows
-  module _ (x : Lent T.the-row) (w : Lent u64) (ps : Partitions) (e : ℕ) where
+  module _ (x : Lent T.the-row) (w : Lent u64) (ps : Partitions) (v : Verdict) (e : ℕ) where
     abbrev κs : Lfts 2
     κs = lfts x w
 
@@ -133,13 +135,13 @@ module _ {M : Type 1} (𝓤 : URA M) (H : Heap 𝓤) (A : Atoms 𝓤) (W : Given
     qs = (x .share, (w .share, tt))
 
     abbrev xs : Args f.signature κs
-    xs = (refOf x, (refOf w, (ps, (e, tt))))
+    xs = (refOf x, (refOf w, (ps, (v, (e, tt)))))
 
     abbrev xvs : Vals f.signature κs
-    xvs = (valOf x, (valOf w, (places .val ps ∷ [], (vint w64 e ∷ [], tt))))
+    xvs = (valOf x, (valOf w, (places .val ps ∷ [], (verdict .val v ∷ [], (vint w64 e ∷ [], tt)))))
 
     abbrev passed : List Val
-    passed = held x ∷ held w ∷ places .val ps ∷ vint w64 e ∷ []
+    passed = held x ∷ held w ∷ places .val ps ∷ verdict .val v ∷ vint w64 e ∷ []
 
     abbrev r : Reach
     r = pageReach e
@@ -147,15 +149,18 @@ module _ {M : Type 1} (𝓤 : URA M) (H : Heap 𝓤) (A : Atoms 𝓤) (W : Given
     abbrev q : ℕ → Partition
     q p = partitionIn ps p
 
+    abbrev start : ℕ → ℕ
+    start p = soughtFrom (q p) v p e
+
     abbrev t : ℕ → Top
-    t p = findOf (x .list) (w .list) r noTop (fromOf (q p)) (toOf (q p))
+    t p = findOf (x .list) (w .list) r noTop (start p) (toOf (q p))
 
     abbrev c : ℕ → Cut
     c p = cutOf r (t p) 0
 
     -- the words after p partitions
     abbrev cur : ℕ → List ℕ
-    cur p = laidBelow (x .list) ps e p
+    cur p = laidBelow (x .list) ps v e p
 
     cur-0 : noWords ≡ cur 0
     unfolding laidBelow
@@ -163,17 +168,17 @@ module _ {M : Type 1} (𝓤 : URA M) (H : Heap 𝓤) (A : Atoms 𝓤) (W : Given
 
     -- after i entries of partition p, of n
     abbrev laid : ℕ → ℕ → Laid
-    laid p i = laidIn (x .list) (q p) e p (cur p) i
+    laid p i = laidIn (x .list) (q p) v p e (cur p) i
 
     abbrev n : ℕ → ℕ
-    n p = toOf (q p) - fromOf (q p)
+    n p = toOf (q p) - start p
 
     cur-suc : (p : ℕ) → laid p (n p) .words ≡ cur (suc p)
     unfolding laidBelow
     cur-suc p = refl
 
     abbrev g : ℕ → ℕ → Entry
-    g p i = readOf (x .list) (fromOf (q p) + i)
+    g p i = readOf (x .list) (start p + i)
 
     -- the pending run with one entry more
     abbrev s : ℕ → ℕ → Pending
@@ -216,8 +221,8 @@ module _ {M : Type 1} (𝓤 : URA M) (H : Heap 𝓤) (A : Atoms 𝓤) (W : Given
         owned ! (laid-runs .row) (Is (laid-runs .row)) (laid-runs .makes 𝓤 H A W) ans _ gv $ done !
 
     module _ (room : Room T.the-row (length (x .list))) (roomy : Room u64 (length (w .list))) (gp : Is (places .row) ps
-        (places .val ps ∷ [])) (fe : e < 2 ^ 64) (fs : Blocks firsts) (b : ℕ) (ms : Blocks mids) (bs : Blocks others)
-        where
+        (places .val ps ∷ [])) (gd : Is (verdict .row) v (verdict .val v ∷ [])) (fe : e < 2 ^ 64) (fs : Blocks firsts)
+        (b : ℕ) (ms : Blocks mids) (bs : Blocks others) where
       abbrev Fs : Env 𝓤 H
       Fs = envOf firsts fs
 
@@ -232,8 +237,8 @@ module _ {M : Type 1} (𝓤 : URA M) (H : Heap 𝓤) (A : Atoms 𝓤) (W : Given
 
       -- the first locals at p
       abbrev Kept : ℕ → Item 𝓤
-      Kept p = Frame Fs (bare ∷ holds (held x) ∷ holds (held w) ∷ holds (places .val ps) ∷ holds (vint w64 e) ∷ holds
-          (reach .val r) ∷ holds (top .val noTop) ∷ holds (vint w64 p) ∷ [])
+      Kept p = Frame Fs (bare ∷ holds (held x) ∷ holds (held w) ∷ holds (places .val ps) ∷ holds (verdict .val v) ∷
+          holds (vint w64 e) ∷ holds (reach .val r) ∷ holds (top .val noTop) ∷ holds (vint w64 p) ∷ [])
 
       -- the words' elements, each apart
       abbrev Apart : List ℕ → Item 𝓤
@@ -260,17 +265,17 @@ module _ {M : Type 1} (𝓤 : URA M) (H : Heap 𝓤) (A : Atoms 𝓤) (W : Given
         Turns k p = Sq W (Turned p) (runs (𝓣 .C) (𝓣 .Λ) En code.Mir.turn-2 (anyQ (Next k)))
 
         -- ---- the entries of partition p
-        module _ (k p : ℕ) (less : p < partitionsMax) (eq : partitionsMax - suc k ≡ p) (ff : fromOf (q p) < 2 ^ 64) (ft
+        module _ (k p : ℕ) (less : p < partitionsMax) (eq : partitionsMax - suc k ≡ p) (ff : start p < 2 ^ 64) (ft
             : toOf (q p) < 2 ^ 64) (gc : Is (cut .row) (c p) (cut .val (c p) ∷ [])) where
           -- what the turn of the outer loop holds, with the pending run z, and i at j
           abbrev Held : Pending → ℕ → Item 𝓤
-          Held z j = Frame Ms (holds (place .val (q p)) ∷ holds (vint w64 (fromOf (q p))) ∷ holds (vint w64 (toOf (q
+          Held z j = Frame Ms (holds (place .val (q p)) ∷ holds (vint w64 (start p)) ∷ holds (vint w64 (toOf (q
               p))) ∷ holds (top .val (t p)) ∷ holds (cut .val (c p)) ∷ holds (pending .val z) ∷ holds (vint w64 j) ∷ [])
 
           -- the context after i turns
           abbrev InTurned : ℕ → List (Item 𝓤)
           InTurned i = ‵ (token x) ∷ ‵ (shr x) ∷ ‵ (token w) ∷ ‵ (shr w) ∷ Apart (laid p i .words) ∷ Kept p ∷ Held (laid
-              p i .pending) (fromOf (q p) + i) ∷ Frame Gs (bares others) ∷ ‵ (fdies (words .mir) b) ∷ Own (laid p i
+              p i .pending) (start p + i) ∷ Frame Gs (bares others) ∷ ‵ (fdies (words .mir) b) ∷ Own (laid p i
               .pending) ∷ []
 
           -- where h turns are left
@@ -287,7 +292,7 @@ module _ {M : Type 1} (𝓤 : URA M) (H : Heap 𝓤) (A : Atoms 𝓤) (W : Given
           in-more : (h i : ℕ) → i < n p → n p - h ≡ i → InTurns h i
           unfolding afterTurn
           in-more h i under is =
-              let a = fromOf (q p) in let z = s p i in let j = placeIn z in let below = place-below z in
+              let a = start p in let z = s p i in let j = placeIn z in let below = place-below z in
               let lower : a + i < toOf (q p) = omega (arith, under) in
               let fits : a + i < 2 ^ 64 = omega (arith, lower, ft) in
               let next-fits : a + i + 1 < 2 ^ 64 = omega (arith, lower, ft) in
@@ -347,14 +352,14 @@ module _ {M : Type 1} (𝓤 : URA M) (H : Heap 𝓤) (A : Atoms 𝓤) (W : Given
           in-ends : (h : ℕ) → InTurns h (n p)
           unfolding afterTurn
           in-ends h =
-              let a = fromOf (q p) in let over : toOf (q p) ≤ a + n p = omega arith in
+              let a = start p in let over : toOf (q p) ≤ a + n p = omega arith in
               let next-fits : p + 1 < 2 ^ 64 = omega (arith, less) in
               let suc-fits : suc p < 2 ^ 64 = omega (arith, less) in
               assigns ! (as-value (ap vbool (le-ltb (a + n p) (toOf (q p)) over)) (bin ! (get ! 6 6 refl refl refl) (get
                   ! 6 2 refl refl refl) tt)) (from ! (stop !)) (sets ! 7 5 refl tt (tt, tt)) $
               leaves-loop ! (get ! 7 5 refl refl refl) $ exec ! (𝓣 .C) (𝓣 .Λ) En last-part (anyQ (Next (suc k))) $
-              assigns-last ! (as-value (ap (vint w64) (add-one p)) (bin ! (get ! 5 7 refl refl refl) (lit ! tt) (record
-                  { fits = next-fits }))) (from ! (stop !)) (sets ! 5 7 refl tt (tt, record { fits = suc-fits })) $
+              assigns-last ! (as-value (ap (vint w64) (add-one p)) (bin ! (get ! 5 8 refl refl refl) (lit ! tt) (record
+                  { fits = next-fits }))) (from ! (stop !)) (sets ! 5 8 refl tt (tt, record { fits = suc-fits })) $
               rewrite ! 4 (λ (m : List ℕ). Apart m) (cur-suc p) refl $
               move ! (9 ∷ []) $ drop ! $ move ! (6 ∷ []) $ empties ! $ move ! (7 ∷ []) $ empties ! $
               move ! (2 ∷ 3 ∷ 4 ∷ 5 ∷ 6 ∷ 7 ∷ 1 ∷ 0 ∷ []) $ goes-on
@@ -382,15 +387,17 @@ module _ {M : Type 1} (𝓤 : URA M) (H : Heap 𝓤) (A : Atoms 𝓤) (W : Given
         more : (k p : ℕ) → p < partitionsMax → partitionsMax - suc k ≡ p → Turns (suc k) p
         unfolding afterTurn
         more k p less eq =
-            let a = fromOf (q p) in let fits : p < 2 ^ 64 = omega (arith, less) in
-            assigns ! (as-value (ap vbool (lt-ltb p partitionsMax less)) (bin ! (get ! 5 7 refl refl refl) (lit ! tt)
+            let a = start p in let fits : p < 2 ^ 64 = omega (arith, less) in
+            assigns ! (as-value (ap vbool (lt-ltb p partitionsMax less)) (bin ! (get ! 5 8 refl refl refl) (lit ! tt)
                 tt)) (from ! (stop !)) (sets ! 7 4 refl tt (tt, tt)) $ stays ! (get ! 7 4 refl refl refl) $
             yield-call fm place (places ∷ number ∷ []) partitionIn (known .place-of) (ps, (p, tt)) (gp, ((refl, fits),
                 tt))
-            (λ _. and-then ! (get ! 6 3 refl refl refl) (and-then ! (get ! 6 7 refl refl refl) (no-more !))) (λ gq.
+            (λ _. and-then ! (get ! 6 3 refl refl refl) (and-then ! (get ! 6 8 refl refl refl) (no-more !))) (λ gq.
             land ! (from ! (stop !)) (sets ! 6 0 refl tt (place .wt 𝓤 H A W (q p) gq)) $
-            yield-call fm number (place ∷ []) fromOf (known .from-of) (q p, tt) (gq, tt)
-            (λ _. and-then ! (get ! 7 0 refl refl refl) (no-more !)) (λ gf.
+            yield-call fm number (place ∷ verdict ∷ number ∷ number ∷ []) soughtFrom (known .sought-from) (q p, (v, (p,
+                (e, tt)))) (gq, (gd, ((refl, fits), ((refl, fe), tt))))
+            (λ _. and-then ! (get ! 7 0 refl refl refl) (and-then ! (get ! 6 4 refl refl refl) (and-then ! (get ! 6 8
+                refl refl refl) (and-then ! (get ! 6 5 refl refl refl) (no-more !))))) (λ gf.
             land ! (from ! (stop !)) (sets ! 6 1 refl tt (tt, record { fits = gf .1 })) $
             yield-call fm number (place ∷ []) toOf (known .to-of) (q p, tt) (gq, tt)
             (λ _. and-then ! (get ! 7 0 refl refl refl) (no-more !)) (λ gt.
@@ -398,16 +405,16 @@ module _ {M : Type 1} (𝓤 : URA M) (H : Heap 𝓤) (A : Atoms 𝓤) (W : Given
             find2-call fm T.the-row u64 top (reach ∷ top ∷ number ∷ number ∷ []) findOf (known .find) x w (r, (noTop,
                 (a, (toOf (q p), tt)))) (gr, (gn, (gf, (gt, tt))))
             (λ _ _ _. and-then ! (get ! 4 1 refl refl refl) (and-then ! (get ! 4 2 refl refl refl) (and-then ! (get ! 4
-                5 refl refl refl) (and-then ! (get ! 4 6 refl refl refl) (and-then ! (get ! 5 1 refl refl refl)
+                6 refl refl refl) (and-then ! (get ! 4 7 refl refl refl) (and-then ! (get ! 5 1 refl refl refl)
                 (and-then ! (get ! 5 2 refl refl refl) (no-more !))))))) (λ gu.
             land ! (from ! (stop !)) (sets ! 6 3 refl tt (top .wt 𝓤 H A W (t p) gu)) $
             yield-call fm cut (reach ∷ top ∷ number ∷ []) cutOf (known .cut-of) (r, (t p, (0, tt))) (gr, (gu, ((refl,
                 lit< tt), tt)))
-            (λ _. and-then ! (get ! 6 5 refl refl refl) (and-then ! (get ! 7 3 refl refl refl) (and-then ! (lit ! tt)
+            (λ _. and-then ! (get ! 6 6 refl refl refl) (and-then ! (get ! 7 3 refl refl refl) (and-then ! (lit ! tt)
                 (no-more !)))) (λ gc.
             land ! (from ! (stop !)) (sets ! 6 4 refl tt (cut .wt 𝓤 H A W (c p) gc)) $
             yield-call fm pending (number ∷ []) firstOf (known .first-of) (p, tt) ((refl, fits), tt)
-            (λ _. and-then ! (get ! 6 7 refl refl refl) (no-more !)) (λ gs.
+            (λ _. and-then ! (get ! 6 8 refl refl refl) (no-more !)) (λ gs.
             land ! (from ! (stop !)) (sets ! 6 5 refl tt (pending .wt 𝓤 H A W (firstOf p) gs)) $
             assigns ! (as-value (ap (vint w64) (sym (add-zero a))) (of-opd ! (get ! 6 1 refl refl refl))) (from ! (stop
                 !)) (sets ! 6 6 refl tt (tt, record { fits = subst (λ (j : ℕ). j < 2 ^ 64) (sym (add-zero a)) (gf .1)
@@ -424,7 +431,7 @@ module _ {M : Type 1} (𝓤 : URA M) (H : Heap 𝓤) (A : Atoms 𝓤) (W : Given
         ends : Turns zero partitionsMax
         unfolding afterTurn
         ends =
-            assigns ! (bin ! (get ! 5 7 refl refl refl) (lit ! tt) tt) (from ! (stop !)) (sets ! 7 4 refl tt (tt, tt)) $
+            assigns ! (bin ! (get ! 5 8 refl refl refl) (lit ! tt) tt) (from ! (stop !)) (sets ! 7 4 refl tt (tt, tt)) $
             leaves-loop ! (get ! 7 4 refl refl refl) $ exec ! (𝓣 .C) (𝓣 .Λ) En code.Mir.t-7 (atRet En Post) $
             -- the elements are an array again
             move ! (4 ∷ []) $ use1 W (‵ (partAt (words .row) fullShare (cur partitionsMax) b 0)) (array-whole 𝓤 H A W
@@ -447,16 +454,16 @@ module _ {M : Type 1} (𝓤 : URA M) (H : Heap 𝓤) (A : Atoms 𝓤) (W : Given
         starts = loops ! 𝓣 _<_ (Nat·lt-wfRel .wf) Inv turn partitionsMax
 
       begins : Sq W (‵ (token x) ∷ ‵ (shr x) ∷ ‵ (token w) ∷ ‵ (shr w) ∷ Frame Fs (bare ∷ holds (held x) ∷ holds (held
-          w) ∷ holds (places .val ps) ∷ holds (vint w64 e) ∷ bare ∷ bare ∷ bare ∷ []) ∷ Frame Ms (bares mids) ∷ Frame Gs
-          (bares others) ∷ ‵ (froom (words .mir) b 0) ∷ ‵ (fdies (words .mir) b) ∷ []) (runs (𝓣 .C) (𝓣 .Λ) En
-          code.Mir.t-1 (atRet En Post))
+          w) ∷ holds (places .val ps) ∷ holds (verdict .val v) ∷ holds (vint w64 e) ∷ bare ∷ bare ∷ bare ∷ []) ∷ Frame
+          Ms (bares mids) ∷ Frame Gs (bares others) ∷ ‵ (froom (words .mir) b 0) ∷ ‵ (fdies (words .mir) b) ∷ []) (runs
+          (𝓣 .C) (𝓣 .Λ) En code.Mir.t-1 (atRet En Post))
       begins =
           yield-call fm reach (number ∷ []) pageReach (known .page-at) (e, tt) ((refl, fe), tt)
-              (λ _. and-then ! (get ! 5 4 refl refl refl) (no-more !)) (λ gr.
-          land ! (from ! (stop !)) (sets ! 4 5 refl tt (reach .wt 𝓤 H A W r gr)) $
+              (λ _. and-then ! (get ! 5 5 refl refl refl) (no-more !)) (λ gr.
+          land ! (from ! (stop !)) (sets ! 4 6 refl tt (reach .wt 𝓤 H A W r gr)) $
           yield-call fm top [] noTop (known .no-top) tt tt (λ _. no-more !) (λ gn.
-          land ! (from ! (stop !)) (sets ! 4 6 refl tt (top .wt 𝓤 H A W noTop gn)) $
-          assigns ! (of-opd ! (lit ! tt)) (from ! (stop !)) (sets ! 4 7 refl tt (tt, record { fits = lit< tt })) $
+          land ! (from ! (stop !)) (sets ! 4 7 refl tt (top .wt 𝓤 H A W noTop gn)) $
+          assigns ! (of-opd ! (lit ! tt)) (from ! (stop !)) (sets ! 4 8 refl tt (tt, record { fits = lit< tt })) $
           yield-call fm words [] noWords (known .no-words) tt tt (λ _. no-more !) (λ ga.
           land ! (from ! (stop !)) (sets ! 6 3 refl tt (words .wt 𝓤 H A W noWords ga)) $
           assigns ! (of-opd ! (get ! 6 3 refl refl refl)) (from ! (stop !)) (init ! 7 refl (words .wt 𝓤 H A W noWords
@@ -469,8 +476,9 @@ module _ {M : Type 1} (𝓤 : URA M) (H : Heap 𝓤) (A : Atoms 𝓤) (W : Given
           move ! (2 ∷ 3 ∷ 4 ∷ 5 ∷ 0 ∷ 6 ∷ 7 ∷ 1 ∷ 8 ∷ []) $ first ! $ blocks ! $ starts gr gn)))
 
     walk : Room T.the-row (length (x .list)) → Room u64 (length (w .list)) → Is (places .row) ps (places .val ps ∷ [])
-        → e < 2 ^ 64 → ent 𝓤 (onEntry 𝓤 H A f.signature κs qs xs xvs) (WpFn 𝓤 H (𝓣 .C) (𝓣 .Λ) code.function passed Post)
-    walk room roomy gp fe =
+        → Is (verdict .row) v (verdict .val v ∷ []) → e < 2 ^ 64
+        → ent 𝓤 (onEntry 𝓤 H A f.signature κs qs xs xvs) (WpFn 𝓤 H (𝓣 .C) (𝓣 .Λ) code.function passed Post)
+    walk room roomy gp gd fe =
         qed W ((‵ (token x) ⊛ (‵ (token w) ⊛ ‵ ftrue)) ∷ ‵ (owns (typesAt {n = 2} slots κs) xs xvs) ∷ []) ∵
         enter ! (𝓣 .C) (𝓣 .Λ) code.function passed _ $ allocs-frame ! firsts (λ fs. alloc1 ! (λ b. allocs-frame ! mids
             (λ ms. allocs-frame ! others (λ bs. alloc0 ! $ params1 ! $
@@ -478,12 +486,13 @@ module _ {M : Type 1} (𝓤 : URA M) (H : Heap 𝓤) (A : Atoms 𝓤) (W : Given
         pass1 ! (sets ! 4 1 refl tt (tt, (tt, (record { fits = room .0 }, tt)))) $
         pass1 ! (sets ! 4 2 refl tt (tt, (tt, (record { fits = roomy .0 }, tt)))) $
         pass1 ! (sets ! 4 3 refl tt (places .wt 𝓤 H A W ps gp)) $
-        pass1 ! (sets ! 4 4 refl tt (tt, record { fits = fe })) $ pass0 ! $
+        pass1 ! (sets ! 4 4 refl tt (verdict .wt 𝓤 H A W v gd)) $
+        pass1 ! (sets ! 4 5 refl tt (tt, record { fits = fe })) $ pass0 ! $
         move ! (6 ∷ []) $ fsplit ! $ move ! (1 ∷ []) $ fsplit ! $
         -- [the rows; what the rest own; the entries; the others; what is held; the array; what frees it; the first
         -- locals; the tokens]
         move ! (8 ∷ []) $ split ! $ move ! (1 ∷ []) $ split ! $ keep ! (2 ∷ 5 ∷ 0 ∷ 3 ∷ 10 ∷ 7 ∷ 6 ∷ 8 ∷ 9 ∷ []) $
-        begins room roomy gp fe fs b ms bs))))
+        begins room roomy gp gd fe fs b ms bs))))
 
   runs-of-walks : Walks 𝓤 H A f.ended (drops slots kept) (WpFn 𝓤 H (𝓣 .C) (𝓣 .Λ) code.function) (f.clauses 𝓤 H A
       at-mem run)
@@ -493,8 +502,8 @@ module _ {M : Type 1} (𝓤 : URA M) (H : Heap 𝓤) (A : Atoms 𝓤) (W : Given
       (λ κs. (shr-slice-tells (named 0) (κs .0) T.the-row, (shr-slice-tells (named 1) (κs .1 .0) u64, tells 2 κs
           given)))
       (λ κs qs bounds a g are. via 𝓤 _ (fst∗ 𝓤 _ (emp 𝓤)) (walk (lent-by (κs .0) (qs .0) (a .0)) (lent-by (κs .1 .0)
-          (qs .1 .0) (a .1 .0)) (a .1 .1 .0) (a .1 .1 .1 .0) (are .0 .0 .1) (are .1 .0 .0 .1) (are .1 .1 .0) (are .1 .1
-          .1 .0 .1)))
+          (qs .1 .0) (a .1 .0)) (a .1 .1 .0) (a .1 .1 .1 .0) (a .1 .1 .1 .1 .0) (are .0 .0 .1) (are .1 .0 .0 .1) (are .1
+          .1 .0) (are .1 .1 .1 .0) (are .1 .1 .1 .1 .0 .1)))
 
   runs-of-meets : Meets 𝓤 H A f.signature (WpFn 𝓤 H (𝓣 .C) (𝓣 .Λ) code.function) (f.spec 𝓤 H A at-mem run)
   runs-of-meets = walk-meets 𝓤 H A f.ended (drops slots kept) W (drops-go 𝓤 H A W slots kept silent) (f.clauses 𝓤 H A

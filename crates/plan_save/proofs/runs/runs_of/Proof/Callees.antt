@@ -22,12 +22,13 @@ use Rattle.lent.specs.Shapes.{turned}
 use Rattle.lent.proofs.Types.{entry}
 use Rattle.area.specs.Load.{partitionIn}
 use Rattle.area.proofs.Types.{place, places}
-use Rattle.totals.specs.Places.{fromOf, toOf}
+use Rattle.totals.specs.Places.{toOf}
 use Rattle.totals.specs.Reach.{pageReach, noTop, topTurn, cutOf}
 use Rattle.totals.specs.declared.Reach.{Reach}
 use Rattle.totals.specs.declared.Top.{Top}
 use Rattle.totals.proofs.Types.{reach, top}
-use Rattle.plan_save.specs.Runs.{noWords, firstOf, pendingTurn, placeIn, wordOf, runsWith}
+use Rattle.partition_sound.proofs.Types.{verdict}
+use Rattle.plan_save.specs.Runs.{noWords, soughtFrom, firstOf, pendingTurn, placeIn, wordOf, runsWith}
 use Rattle.plan_save.proofs.Types.{pending, word, words, runs, cut}
 use Rattle.shapes.proofs.Two.{Finds2}
 use Rattle.plan_save.proofs.runs.page_at.Symbol as page-at-def
@@ -38,8 +39,8 @@ use Rattle.plan_save.proofs.runs.no_words.Symbol as no-words-def
 use Rattle.plan_save.proofs.runs.no_words.Met as no-words-thm
 use Rattle.area.proofs.place_of.Symbol as place-of-def
 use Rattle.area.proofs.place_of.Met as place-of-thm
-use Rattle.totals.proofs.from_of.Symbol as from-of-def
-use Rattle.totals.proofs.from_of.Met as from-of-thm
+use Rattle.plan_save.proofs.runs.sought_from.Symbol as sought-from-def
+use Rattle.plan_save.proofs.runs.sought_from.Met as sought-from-thm
 use Rattle.totals.proofs.to_of.Symbol as to-of-def
 use Rattle.totals.proofs.to_of.Met as to-of-thm
 use Rattle.totals.proofs.clearing.find.Symbol as find-def
@@ -79,8 +80,8 @@ module _ {M : Type 1} (𝓤 : URA M) (H : Heap 𝓤) (A : Atoms 𝓤) where
   abbrev PlaceOf : Contract 𝓤
   PlaceOf = Yields 𝓤 place (places ∷ number ∷ []) partitionIn H A
 
-  abbrev FromOf : Contract 𝓤
-  FromOf = Yields 𝓤 number (place ∷ []) fromOf H A
+  abbrev SoughtFrom : Contract 𝓤
+  SoughtFrom = Yields 𝓤 number (place ∷ verdict ∷ number ∷ number ∷ []) soughtFrom H A
 
   abbrev ToOf : Contract 𝓤
   ToOf = Yields 𝓤 number (place ∷ []) toOf H A
@@ -115,7 +116,7 @@ module _ {M : Type 1} (𝓤 : URA M) (H : Heap 𝓤) (A : Atoms 𝓤) where
     pub no-top : Triple 𝓤 (𝓣 .C no-top-def.name) NoTop
     pub no-words : Triple 𝓤 (𝓣 .C no-words-def.name) NoWords
     pub place-of : Triple 𝓤 (𝓣 .C place-of-def.name) PlaceOf
-    pub from-of : Triple 𝓤 (𝓣 .C from-of-def.name) FromOf
+    pub sought-from : Triple 𝓤 (𝓣 .C sought-from-def.name) SoughtFrom
     pub to-of : Triple 𝓤 (𝓣 .C to-of-def.name) ToOf
     pub find : Triple 𝓤 (𝓣 .C find-def.name) Find
     pub cut-of : Triple 𝓤 (𝓣 .C cut-of-def.name) CutOf
@@ -135,7 +136,8 @@ knowns 𝓤 H 𝓜 𝓖 𝓡 = record {
   no-words = cited 𝓤 H _ 𝓜 𝓡 code.env no-words-def.name _ code.calls-plan-save·runs·no-words
     (no-words-thm.met 𝓤 H 𝓜 𝓖 𝓡);
   place-of = cited 𝓤 H _ 𝓜 𝓡 code.env place-of-def.name _ code.calls-area·place-of (place-of-thm.met 𝓤 H 𝓜 𝓖 𝓡);
-  from-of = cited 𝓤 H _ 𝓜 𝓡 code.env from-of-def.name _ code.calls-totals·from-of (from-of-thm.met 𝓤 H 𝓜 𝓖 𝓡);
+  sought-from = cited 𝓤 H _ 𝓜 𝓡 code.env sought-from-def.name _ code.calls-plan-save·runs·sought-from
+    (sought-from-thm.met 𝓤 H 𝓜 𝓖 𝓡);
   to-of = cited 𝓤 H _ 𝓜 𝓡 code.env to-of-def.name _ code.calls-totals·to-of (to-of-thm.met 𝓤 H 𝓜 𝓖 𝓡);
   find = cited 𝓤 H _ 𝓜 𝓡 code.env find-def.name _ code.calls-totals·clearing·find (find-thm.met 𝓤 H 𝓜 𝓖 𝓡);
   cut-of = cited 𝓤 H _ 𝓜 𝓡 code.env cut-of-def.name _ code.calls-totals·cut-of (cut-of-thm.met 𝓤 H 𝓜 𝓖 𝓡);
