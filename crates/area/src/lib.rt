@@ -64,6 +64,27 @@ pub fn place_of(ps: Partitions, p: usize) -> Partition
     partition_at(ps, p as u64)
 }
 
+// The same for a loop over all of them: each by its number, since at an index that varies all are copied at each turn.
+pub fn each_place(ps: Partitions, p: usize) -> Partition
+    ensures { λ r. ⌜ r ≡ partitionIn ps p ⌝ }
+{
+    match p {
+        0 => ps.at[0],
+        1 => ps.at[1],
+        2 => ps.at[2],
+        3 => ps.at[3],
+        4 => ps.at[4],
+        5 => ps.at[5],
+        6 => ps.at[6],
+        7 => ps.at[7],
+        _ => Partition {
+            area: 0,
+            rows: 0,
+            entries: 0,
+        },
+    }
+}
+
 // Where entry i goes, of `count` that are put from index `base` on; `past` where it is not in use, or out of range.
 pub fn place_at(count: usize, base: usize, past: usize, i: usize) -> usize
     ensures { λ r. ⌜ r ≡ placeAt count base past i ⌝ }

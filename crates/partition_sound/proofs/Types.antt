@@ -1,5 +1,5 @@
 -- The crate's types as a walk takes them: where a pass stands, what an epoch is held against, the records' epochs, what
--- is asked of the books, what is found.
+-- is asked of the books, what is found of some partitions, and of all.
 -- Assumes nothing.
 use mathlib.Core.Path.{refl}
 use mir.Syntax.{w64, tyInt, tyArray}
@@ -15,6 +15,8 @@ use Rattle.partition_sound.proofs.Held as E
 use Rattle.partition_sound.proofs.Held.Laws as E′
 use Rattle.partition_sound.proofs.Asked as K
 use Rattle.partition_sound.proofs.Asked.Laws as K′
+use Rattle.partition_sound.proofs.Landed as N
+use Rattle.partition_sound.proofs.Landed.Laws as N′
 use Rattle.partition_sound.proofs.Verdict as D
 use Rattle.partition_sound.proofs.Verdict.Laws as D′
 
@@ -42,6 +44,12 @@ asked = record {
   row = K.the-row; mir = K′.mir; val = LL.val K.the-type K′.the-laws; tells = LL.tells K.the-type K′.the-laws;
   wt = λ 𝓤 H A G z g. LL.lawful K.the-type K′.the-laws 𝓤 H A G .typed z _ g .0; last = λ x. tt;
   silent = λ x f. refl; makes = λ 𝓤 H A _. LL.makes K.the-type K′.the-plain 𝓤 H A }
+
+abbrev pub landed : Shown
+landed = record {
+  row = N.the-row; mir = N′.mir; val = LL.val N.the-type N′.the-laws; tells = LL.tells N.the-type N′.the-laws;
+  wt = λ 𝓤 H A G z g. LL.lawful N.the-type N′.the-laws 𝓤 H A G .typed z _ g .0; last = λ x. tt;
+  silent = λ x f. refl; makes = λ 𝓤 H A _. LL.makes N.the-type N′.the-plain 𝓤 H A }
 
 abbrev pub verdict : Shown
 verdict = record {

@@ -1,5 +1,5 @@
 -- One pass over a partition's entries, as the code makes it.
--- In order: an epoch with a record, an entry after another, one more of the pass.
+-- In order: an epoch with a record, and one that an entry may have; an entry after another; one more of the pass.
 -- Laws: proofs/Laws/Pass.antt (it finds chained).
 -- Assumes nothing.
 use mathlib.Core.Bool.{Bool, false, not, _&&_, _||_, cond}
@@ -16,17 +16,27 @@ use Rattle.partition_sound.specs.declared.Held.{Held}
 unfoldable pub foundIn : ℕ → List ℕ → ℕ → Bool
 foundIn lce js j = leb j lce || elem j js
 
--- entry e may stand after entry d: c is what its epoch is held against, and js are the epochs that are lent
-unfoldable pub comesAfter : List ℕ → Held → Entry → Entry → Bool
-comesAfter js c d e =
-    leb 1 (e .epoch) && ltb (e .epoch) (c .ec) && foundIn (c .lce) (take (c .count) js) (e .epoch)
-    && cond (eqb (e .mark) 1) (leb (d .end) (e .end))
-      (eqb (e .mark) 0 && ltb (d .end) (e .end) && not (eqb (d .mark) 0 && eqb (d .epoch) (e .epoch)))
+-- an epoch that an entry may have: c is what it is held against, and js are the epochs that are lent
+unfoldable pub heldBy : List ℕ → Held → ℕ → Bool
+heldBy js c j = leb 1 j && (leb j (c .low) || (ltb j (c .ec) && foundIn (c .lce) (take (c .count) js) j))
+
+-- entry e may stand where s tells of the one before it
+unfoldable pub comesAfter : Last → Entry → Bool
+comesAfter s e =
+    cond (eqb (e .mark) 0) (ltb (s .end) (e .end) && not (eqb (s .epoch) (e .epoch)))
+      (eqb (e .mark) 1 && leb (s .end) (e .end))
 
 abbrev pub badOf : Last → Last
-badOf s = record { entry = s .entry; ok = false; cleared = s .cleared }
+badOf s = record { epoch = s .epoch; end = s .end; ok = false; cleared = s .cleared; above = s .above }
+
+-- what is told of an entry that may stand there, and whether one so far lies above low
+unfoldable pub toldOf : Last → Entry → Bool → Last
+toldOf s e above = record {
+  epoch = cond (eqb (e .mark) 0) (e .epoch) 0; end = e .end; ok = s .ok; cleared = eqb (e .mark) 1 || s .cleared;
+  above = above }
+
+abbrev pub followed : Last → Entry → Bool → Last
+followed s e above = cond (comesAfter s e) (toldOf s e above) (badOf s)
 
 abbrev pub stepOf : List ℕ → Held → Last → Entry → Last
-stepOf js c s e =
-    cond (comesAfter js c (s .entry) e)
-    (record { entry = e; ok = s .ok; cleared = eqb (e .mark) 1 || s .cleared }) (badOf s)
+stepOf js c s e = cond (heldBy js c (e .epoch)) (followed s e (ltb (c .low) (e .epoch) || s .above)) (badOf s)

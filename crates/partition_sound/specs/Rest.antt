@@ -3,10 +3,10 @@
 -- Laws: proofs/Laws/Rest.antt (they find restAsked), proofs/Laws/Lands.antt (of a sound store the totals are those
 -- worked out afresh).
 -- Assumes nothing.
-use mathlib.Core.Bool.{Bool, true, false, _&&_, cond}
+use mathlib.Core.Bool.{Bool, true, false, not, _&&_, cond}
 use mathlib.Core.List.{List}
 use Prim.Native.Nat.{ℕ, zero, suc, _-_}
-use lib.ListN.{getD, set}
+use lib.ListN.{getD, set, replicate}
 use lib.Dec.{ltb, leb, eqb}
 use Rattle.rules.specs.Limits.{partitionsMax, rowsMax, entriesMax}
 use Rattle.rules.specs.WellFormed.{areasOk}
@@ -22,19 +22,27 @@ use Rattle.totals.specs.declared.Tally.{Tally}
 use Rattle.rules.specs.declared.Entry.{Entry}
 use Rattle.rules.specs.declared.Partition.{Partition}
 use Rattle.rules.specs.declared.Partitions.{Partitions}
-use Rattle.partition_sound.specs.Sound.{beforeFirst}
 use Rattle.partition_sound.specs.Asked.{lengthsAre, restAsked}
 use Rattle.partition_sound.specs.Pass.{stepOf}
 use Rattle.partition_sound.specs.declared.Asked.{Asked}
 use Rattle.partition_sound.specs.declared.Held.{Held}
+use Rattle.partition_sound.specs.declared.Landed.{Landed}
 use Rattle.partition_sound.specs.declared.Last.{Last}
 use Rattle.partition_sound.specs.declared.Verdict.{Verdict}
 
+-- up to LCE an epoch is well, where that lies below EC and up to it no epoch needs a record
+unfoldable pub lowOf : Asked → ℕ
+lowOf a = cond (ltb (a .lce) (a .clock .ec) && leb (a .lce) (a .clock .lce)) (a .lce) 0
+
 abbrev pub heldOf : Asked → Held
-heldOf a = record { ec = a .clock .ec; lce = a .clock .lce; count = a .count }
+heldOf a = record { ec = a .clock .ec; lce = a .clock .lce; count = a .count; low = lowOf a }
 
 abbrev pub startOf : Last
-startOf = record { entry = beforeFirst; ok = true; cleared = false }
+startOf = record { epoch = 0; end = 0; ok = true; cleared = false; above = false }
+
+-- no partition yet
+abbrev pub beforeOf : Asked → Landed
+beforeOf a = record { totals = a .totals; whole = replicate partitionsMax false; low = lowOf a }
 
 abbrev pub begins : ℕ → ℕ → Partitions → Bool
 begins n m ps = lengthsAre n m && areasOk ps
@@ -45,11 +53,19 @@ reachOf a = record { over = 0; high = a .lce; gone = 0 }
 
 -- partition q is well: what the pass over its entries tells
 abbrev pub wellBy : Partition → Last → Bool
-wellBy q s = (leb (q .rows) rowsMax && leb (q .entries) entriesMax) && eqb (s .entry .end) (q .rows) && s .ok
+wellBy q s = (leb (q .rows) rowsMax && leb (q .entries) entriesMax) && eqb (s .end) (q .rows) && s .ok
 
 -- it is weighed to its end, and nowhere where it is not well
 unfoldable pub weighedTo : Partition → Last → ℕ → ℕ → ℕ
 weighedTo q s from to = cond (wellBy q s) to from
+
+-- all its rows are shown to a page at low or later
+abbrev pub isWhole : Last → Bool
+isWhole s = not (s .above) && not (s .cleared)
+
+-- of a whole partition the last entry alone tells which rows are shown
+unfoldable pub weighedFrom : Last → ℕ → ℕ → ℕ
+weighedFrom s from end = cond (isWhole s && ltb from end) (end - 1) from
 
 -- its greatest clearing is sought nowhere where it has none
 unfoldable pub clearedTo : Last → ℕ → ℕ → ℕ
@@ -65,11 +81,15 @@ judgedOf rows ok totals p q s c t =
     ok && wellBy q s && ltb p partitionsMax && eqb (getD totals p 0) (closedOf rows (c .shown .base) t)
 
 -- a clearing that lands takes out what was there, and what lands comes on top
-unfoldable pub landedAt : List ℕ → ℕ → Top → Tally → List ℕ
-landedAt totals p newest t = set totals p (plus (cond (eqb (newest .epoch) 0) (getD totals p 0) 0) (t .more))
+abbrev pub landedTotal : List ℕ → ℕ → Top → Tally → List ℕ
+landedTotal totals p newest t = set totals p (plus (cond (eqb (newest .epoch) 0) (getD totals p 0) 0) (t .more))
 
-abbrev pub foundOf : Bool → List ℕ → Verdict
-foundOf ok totals = record { totals = totals; ok = ok }
+unfoldable pub landedAt : Landed → ℕ → Last → Top → Tally → Landed
+landedAt l p s newest t = record {
+  totals = landedTotal (l .totals) p newest t; whole = set (l .whole) p (isWhole s); low = l .low }
+
+abbrev pub foundOf : Bool → Landed → Verdict
+foundOf ok l = record { totals = l .totals; whole = l .whole; low = l .low; ok = ok }
 
 -- ---- the passes over the lent entries, of what is asked
 
@@ -96,13 +116,17 @@ module _ (es : List Entry) (rows : List ℕ) (a : Asked) where
   abbrev pub cutsAt : Partition → Cuts
   cutsAt q = cutsOf q (reachOf a) (topAt q) (a .lands) (newestAt q)
 
-  abbrev pub tallyAt : Partition → Tally
-  tallyAt q = turned (tallyTurn rows (cutsAt q)) noTally es (fromOf q) (endAt q - fromOf q)
+  abbrev pub firstAt : Partition → ℕ
+  firstAt q = weighedFrom (lastAt q) (fromOf q) (endAt q)
 
-  -- the totals once k partitions have landed
-  unfoldable pub landedBelow : ℕ → List ℕ
-  landedBelow zero = a .totals
-  landedBelow (suc k) = let q = partitionIn (a .partitions) k in landedAt (landedBelow k) k (newestAt q) (tallyAt q)
+  abbrev pub tallyAt : Partition → Tally
+  tallyAt q = turned (tallyTurn rows (cutsAt q)) noTally es (firstAt q) (endAt q - firstAt q)
+
+  -- what is found of the partitions below k
+  unfoldable pub landedBelow : ℕ → Landed
+  landedBelow zero = beforeOf a
+  landedBelow (suc k) =
+      let q = partitionIn (a .partitions) k in landedAt (landedBelow k) k (lastAt q) (newestAt q) (tallyAt q)
 
   -- all that is found
   abbrev pub restFound : Verdict

@@ -19,7 +19,7 @@ ghost use mathlib.Core.Path.{_≡_};
 ghost use mathlib.Core.Bool.{_&&_};
 ghost use lib.Dec.{leb};
 ghost use Rattle.rules.specs.Limits.{rowsMax, entriesMax};
-ghost use Rattle.partition_sound.specs.Sound.{epochsOf, epochsWith, beforeFirst};
+ghost use Rattle.partition_sound.specs.Sound.{epochsOf, epochsWith};
 ghost use Rattle.partition_sound.specs.Asked.{raised, askedOf, askedFor, lengthsAre, restAsked};
 ghost use Rattle.partition_sound.specs.Rest.{restFound};
 
@@ -28,20 +28,23 @@ mod numbers;
 mod pass;
 mod rest;
 
-// Where a partition stands after an entry: that entry, whether all are well so far, and whether one was a delete (01:
-// clearing).
+// Where a partition stands after an entry: its epoch, 0 where it is a delete (01: clearing), its end, whether all are
+// well so far, whether one was a delete, and whether one has an epoch above `low` (Held).
 pub struct Last {
-    pub entry: Entry,
+    pub epoch: u64,
+    pub end: usize,
     pub ok: bool,
     pub cleared: bool,
+    pub above: bool,
 }
 
 // What an entry's epoch is held against: it lies below EC, up to LCE it needs no record, and so many of the epochs that
-// are lent beside are those of records.
+// are lent beside are those of records. Up to `low` it needs no test.
 pub struct Held {
     pub ec: u64,
     pub lce: u64,
     pub count: usize,
+    pub low: u64,
 }
 
 // What the test of the lots asks of the books: the clock, with LCE raised to EC where each epoch between has a record;
@@ -57,9 +60,19 @@ pub struct Asked {
     pub lands: Reach,
 }
 
-// What the test finds: the totals once these epochs have landed, and whether all is well.
+// What is found of the partitions so far: the totals once these epochs have landed, and which are whole: they have no
+// delete, and no epoch above `low`, so that a page at `low` or later is shown all their rows.
+pub struct Landed {
+    pub totals: [u64; PARTITIONS_MAX],
+    pub whole: [bool; PARTITIONS_MAX],
+    pub low: u64,
+}
+
+// What the test finds: the same of all partitions, and whether all is well.
 pub struct Verdict {
     pub totals: [u64; PARTITIONS_MAX],
+    pub whole: [bool; PARTITIONS_MAX],
+    pub low: u64,
     pub ok: bool,
 }
 
@@ -105,17 +118,6 @@ fn counts_ok(q: Partition) -> bool
         q.entries <= ENTRIES_MAX
     } else {
         false
-    }
-}
-
-// What stands before the first entry: a delete that ends at row 0.
-fn before_first() -> Entry
-    ensures { λ r. ⌜ r ≡ beforeFirst ⌝ }
-{
-    Entry {
-        epoch: 0,
-        end: 0,
-        mark: 1,
     }
 }
 
@@ -174,9 +176,9 @@ pub fn rest_ok(entries: &[Entry], rows: &[u64], a: Asked) -> bool
     rest::ok_of(r)
 }
 
-// *sound* but for the manager, and the totals once what is asked for has landed. One pass over the entries in use of
-// each partition, to which the records' epochs are lent; then, where the partition is well, one over its entries and
-// rows, which weighs it, and what lands (02 (iii)).
+// *sound* but for the manager, the totals once what is asked for has landed, and which partitions are whole. One pass
+// over the entries in use of each partition, to which the records' epochs are lent; then, where the partition is well,
+// one over its entries and rows, which weighs it, and what lands (02 (iii)): of a whole partition over the last entry.
 pub fn rest_of(entries: &[Entry], rows: &[u64], a: Asked) -> Verdict
     ensures { λ r. ⌜ r ≡ restFound (now (entries .entry)) (now (rows .entry)) a ⌝ }
 {
@@ -191,11 +193,11 @@ pub fn rest_of(entries: &[Entry], rows: &[u64], a: Asked) -> Verdict
     let none = clearing::no_top();
     let empty = shown::no_tally();
     let mut ok = rest::begin(n, m, places);
-    let mut after = rest::totals_of(a);
+    let mut after = rest::before(a);
     let mut p: usize = 0;
     let epochs = rest::epochs_in(a);
     while p < PARTITIONS_MAX {
-        let q = area::place_of(places, p);
+        let q = area::each_place(places, p);
         let from = totals::from_of(q);
         let to = totals::to_of(q);
         let last = pass::pass(entries, &epochs, held, start, from, to);
@@ -205,9 +207,10 @@ pub fn rest_of(entries: &[Entry], rows: &[u64], a: Asked) -> Verdict
         let below = rest::landing_to(lands, from, stop);
         let newest = clearing::find(entries, rows, lands, none, from, below);
         let cuts = totals::cuts_of(q, reach, top, lands, newest);
-        let t = shown::tally(entries, rows, cuts, empty, from, end);
+        let first = rest::weighed_from(last, from, end);
+        let t = shown::tally(entries, rows, cuts, empty, first, end);
         ok = rest::judged(rows, ok, kept, p, q, last, cuts, t);
-        after = rest::landed_at(after, p, newest, t);
+        after = rest::landed_at(after, p, last, newest, t);
         p += 1;
     }
     rest::found(ok, after)

@@ -2,10 +2,10 @@
 // *sound*.
 use crate::Asked;
 use crate::Held;
+use crate::Landed;
 use crate::Last;
 use crate::Verdict;
 use crate::areas::areas_ok;
-use crate::before_first;
 use crate::counts_ok;
 use crate::lengths_ok;
 use rules::Partition;
@@ -19,16 +19,33 @@ use totals::Top;
 use totals::shown::closed;
 use totals::weigh::add;
 ghost use mathlib.Core.Path.{_≡_};
-ghost use Rattle.partition_sound.specs.Rest.{heldOf, reachOf, startOf, begins, weighedTo, clearedTo};
-ghost use Rattle.partition_sound.specs.Rest.{landingTo, judgedOf, landedAt, foundOf};
+ghost use lib.ListN.{set};
+ghost use Rattle.partition_sound.specs.Rest.{lowOf, heldOf, reachOf, startOf, beforeOf, begins, weighedTo};
+ghost use Rattle.partition_sound.specs.Rest.{isWhole, weighedFrom, clearedTo, landingTo, judgedOf};
+ghost use Rattle.partition_sound.specs.Rest.{landedTotal, landedAt, foundOf};
+
+// LCE, where it lies below EC and up to it no epoch needs a record; else no epoch at all.
+fn low_of(a: Asked) -> u64
+    ensures { λ r. ⌜ r ≡ lowOf a ⌝ }
+{
+    if a.clock.ec <= a.lce {
+        return 0;
+    }
+    if a.clock.lce < a.lce {
+        return 0;
+    }
+    a.lce
+}
 
 pub fn held_of(a: Asked) -> Held
     ensures { λ r. ⌜ r ≡ heldOf a ⌝ }
 {
+    let low = low_of(a);
     Held {
         ec: a.clock.ec,
         lce: a.clock.lce,
         count: a.count,
+        low: low,
     }
 }
 
@@ -61,6 +78,19 @@ pub fn totals_of(a: Asked) -> [u64; PARTITIONS_MAX]
     a.totals
 }
 
+// No partition yet.
+pub fn before(a: Asked) -> Landed
+    ensures { λ r. ⌜ r ≡ beforeOf a ⌝ }
+{
+    let totals = a.totals;
+    let low = low_of(a);
+    Landed {
+        totals: totals,
+        whole: [false; PARTITIONS_MAX],
+        low: low,
+    }
+}
+
 pub fn places_of(a: Asked) -> Partitions
     ensures { λ r. ⌜ r ≡ a .partitions ⌝ }
 {
@@ -71,11 +101,12 @@ pub fn places_of(a: Asked) -> Partitions
 pub fn start() -> Last
     ensures { λ r. ⌜ r ≡ startOf ⌝ }
 {
-    let d = before_first();
     Last {
-        entry: d,
+        epoch: 0,
+        end: 0,
         ok: true,
         cleared: false,
+        above: false,
     }
 }
 
@@ -96,13 +127,36 @@ pub fn weighed_to(q: Partition, last: Last, from: usize, to: usize) -> usize
     if !counts_ok(q) {
         return from;
     }
-    if last.entry.end != q.rows {
+    if last.end != q.rows {
         return from;
     }
     if !last.ok {
         return from;
     }
     to
+}
+
+// All rows of the partition are shown to a page at `low` or later.
+fn is_whole(last: Last) -> bool
+    ensures { λ r. ⌜ r ≡ isWhole last ⌝ }
+{
+    if last.above {
+        return false;
+    }
+    !last.cleared
+}
+
+// From where it is weighed: of a whole partition the last entry alone tells which rows are shown.
+pub fn weighed_from(last: Last, from: usize, end: usize) -> usize
+    ensures { λ r. ⌜ r ≡ weighedFrom last from end ⌝ }
+{
+    if !is_whole(last) {
+        return from;
+    }
+    if end <= from {
+        return from;
+    }
+    end - 1
 }
 
 // Up to where the greatest clearing is sought: nowhere where there is none.
@@ -144,7 +198,7 @@ pub fn judged(
     if !counts_ok(q) {
         return false;
     }
-    if last.entry.end != q.rows {
+    if last.end != q.rows {
         return false;
     }
     if !last.ok {
@@ -157,13 +211,8 @@ pub fn judged(
 }
 
 // The total of partition p: a clearing that lands takes out what was there, and what lands comes on top.
-pub fn landed_at(
-    totals: [u64; PARTITIONS_MAX],
-    p: usize,
-    newest: Top,
-    t: Tally,
-) -> [u64; PARTITIONS_MAX]
-    ensures { λ r. ⌜ r ≡ landedAt totals p newest t ⌝ }
+fn total_at(totals: [u64; PARTITIONS_MAX], p: usize, newest: Top, t: Tally) -> [u64; PARTITIONS_MAX]
+    ensures { λ r. ⌜ r ≡ landedTotal totals p newest t ⌝ }
 {
     let mut next = totals;
     if p < PARTITIONS_MAX {
@@ -176,11 +225,40 @@ pub fn landed_at(
     next
 }
 
-pub fn found(ok: bool, totals: [u64; PARTITIONS_MAX]) -> Verdict
-    ensures { λ r. ⌜ r ≡ foundOf ok totals ⌝ }
+fn whole_at(whole: [bool; PARTITIONS_MAX], p: usize, last: Last) -> [bool; PARTITIONS_MAX]
+    ensures { λ r. ⌜ r ≡ set whole p (isWhole last) ⌝ }
 {
+    let mut next = whole;
+    if p < PARTITIONS_MAX {
+        next[p] = is_whole(last);
+    }
+    next
+}
+
+// Partition p too.
+pub fn landed_at(after: Landed, p: usize, last: Last, newest: Top, t: Tally) -> Landed
+    ensures { λ r. ⌜ r ≡ landedAt after p last newest t ⌝ }
+{
+    let totals = after.totals;
+    let whole = after.whole;
+    let landed = total_at(totals, p, newest, t);
+    let found = whole_at(whole, p, last);
+    Landed {
+        totals: landed,
+        whole: found,
+        low: after.low,
+    }
+}
+
+pub fn found(ok: bool, after: Landed) -> Verdict
+    ensures { λ r. ⌜ r ≡ foundOf ok after ⌝ }
+{
+    let totals = after.totals;
+    let whole = after.whole;
     Verdict {
         totals: totals,
+        whole: whole,
+        low: after.low,
         ok: ok,
     }
 }

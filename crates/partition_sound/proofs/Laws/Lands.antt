@@ -74,16 +74,16 @@ module _ (st : Store) (ok : SoundOk st) (eight : length (st .state .partitions .
         rw (f .2, f .1, total-kept st ok p k) (lot-lands es rows q (f .0) (a .lands) s (reachOf a)
           (foldl (topTurn (reachOf a)) noTop own) (omega arith) c (each p k))
 
-    below-length : (k : ℕ) → length (landedBelow es rows a k) ≡ partitionsMax
+    below-length : (k : ℕ) → length (landedBelow es rows a k .totals) ≡ partitionsMax
     unfolding landedBelow landedAt
     below-length zero = eight′
-    below-length (suc k) = length-set (landedBelow es rows a k) k _ ∙ below-length k
+    below-length (suc k) = length-set (landedBelow es rows a k .totals) k _ ∙ below-length k
 
     below : (k : ℕ) → k ≤ partitionsMax → (p : ℕ) → p < partitionsMax
-        → getD (landedBelow es rows a k) p 0 ≡ cond (ltb p k) (next p) (getD (st .state .totals) p 0)
+        → getD (landedBelow es rows a k .totals) p 0 ≡ cond (ltb p k) (next p) (getD (st .state .totals) p 0)
     unfolding landedBelow landedAt
     below zero h p q = rw (le-ltb p 0 (omega arith))
-    below (suc k) h p q = let ts = landedBelow es rows a k in let n = below-length k in
+    below (suc k) h p q = let ts = landedBelow es rows a k .totals in let n = below-length k in
         let at-k = below k (omega arith) k (omega arith) in
         split-eq p k
         (λ e. rw (e, lt-ltb k (suc k) (omega arith)) (getD-set-same ts k _ 0 (omega arith)
@@ -99,7 +99,7 @@ module _ (st : Store) (ok : SoundOk st) (eight : length (st .state .partitions .
           (λ t. let g = ltb-true p k t in rw (t, lt-ltb p (suc k) (omega arith)))
           (λ f. let g = ltb-false p k f in rw (f, le-ltb p (suc k) (beyond g ne)))
 
-    pub lands-all : landedBelow es rows a partitionsMax ≡ map next partitionNumbers
+    pub lands-all : landedBelow es rows a partitionsMax .totals ≡ map next partitionNumbers
     lands-all = ext-getD 0 _ _ (below-length partitionsMax) (λ p q.
         let k : p < partitionsMax = omega (arith, below-length partitionsMax, q) in
         below partitionsMax (omega arith) p k ∙ (rw (lt-ltb p partitionsMax k) (sym (numbered next 0 p k))))
@@ -117,7 +117,7 @@ module _ (st : Store) (ok : SoundOk st) (eight : length (st .state .partitions .
       one t e = epoch-facts (managerOf st) (t .epoch) e .low
 
   pub lands-commit : restAsked (st .entries) (st .rows) (a st ok eight eight′ h 0 (upTo h)) ≡ true
-      → landedBelow (st .entries) (st .rows) (a st ok eight eight′ h 0 (upTo h)) partitionsMax
+      → landedBelow (st .entries) (st .rows) (a st ok eight eight′ h 0 (upTo h)) partitionsMax .totals
         ≡ map (λ p. total h (spansAt p st)) partitionNumbers
   unfolding total
   lands-commit f = lands-all st ok eight eight′ h 0 (upTo h) f (λ p k. All-imp _ _ one (linesOf (spansAt p st))
@@ -129,7 +129,7 @@ module _ (st : Store) (ok : SoundOk st) (eight : length (st .state .partitions .
 
   pub lands-rollback : (i : ℕ) → managerOf st .clock .lce < i
       → restAsked (st .entries) (st .rows) (a st ok eight eight′ h i (upTo h)) ≡ true
-      → landedBelow (st .entries) (st .rows) (a st ok eight eight′ h i (upTo h)) partitionsMax
+      → landedBelow (st .entries) (st .rows) (a st ok eight eight′ h i (upTo h)) partitionsMax .totals
         ≡ map (λ p. total h (rolledBack i (spansAt p st))) partitionNumbers
   lands-rollback i above f = lands-all st ok eight eight′ h i (λ j. not (eqb j i) && leb j h) f
       (λ p k. All-every _ (λ x. rollback-sees (managerOf st .clock .lce) h i (markOf x) up above) (linesOf (spansAt p

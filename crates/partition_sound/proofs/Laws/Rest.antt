@@ -1,83 +1,57 @@
 -- The pass over all partitions, as the code makes it turn by turn, finds *sound* but for the manager.
--- In order: a partition that is well; what a page at LCE weighs; one partition, what it weighs and what lands; those
--- below p; all.
+-- In order: one partition, what it weighs and what lands, by its last entry alone where it is whole; those below p;
+-- all.
+-- Elsewhere: what is known of one that is well (Well.antt), which are whole (Whole.antt).
 -- Definitions: specs/Rest.antt, specs/Asked.antt.
 -- Assumes nothing.
 use mathlib.Core.Path.{_≡_, refl, sym, ap, subst, _∙_}
-use mathlib.Core.Bool.{Bool, true, false, _&&_}
-use mathlib.Core.List.{List, [], _∷_, foldl}
+use mathlib.Core.Bool.{Bool, true, false, not, _&&_}
+use mathlib.Core.List.{List, foldl}
 use Prim.Native.Nat.{ℕ, zero, suc, _*_, _-_, _≤_, _<_}
 use native.Mathlib.Omega.{arith}
-use lib.ListN.{length, take, drop, getD}
+use lib.ListN.{length, take, getD}
 use lib.Dec.{ltb, leb, eqb}
-use borrow.Author.Tests.{leb-true, ltb-true, ltb-false, eqb-true, le-leb, lt-ltb}
+use borrow.Author.Tests.{leb-true, ltb-true, ltb-false, eqb-true, le-leb, lt-ltb, not-true}
 use Rattle.lists.specs.Lists.{allOf, anyOf, part}
-use Rattle.lists.proofs.Laws.All.{All, All-imp, All-every, All-allOf, allOf-All, All-getD, getD-All, All-anyOf}
+use Rattle.lists.proofs.Laws.All.{All, All-imp, All-both, All-every, All-allOf, allOf-All, All-getD, getD-All}
+use Rattle.lists.proofs.Laws.All.{All-anyOf}
 use Rattle.lists.proofs.Laws.Bools.{split, split-eq, both-ways, and-left, and-right, and-both, and-false}
 use Rattle.lists.proofs.Laws.Tests.{and-comm}
 use Rattle.rules.specs.Limits.{rowsMax, entriesMax, areasMax, partitionsMax}
-use Rattle.rules.specs.Span.{Span, spans}
-use Rattle.rules.specs.Weight.{weight, weightBy, total}
+use Rattle.rules.specs.Span.{spans}
+use Rattle.rules.specs.Weight.{total}
 use Rattle.rules.specs.Store.{noPartition, partitionNumbers}
-use Rattle.rules.specs.WellFormed.{areasOk, endsOk, apart}
-use Rattle.rules.specs.declared.Clock.{Clock}
+use Rattle.rules.specs.WellFormed.{areasOk}
 use Rattle.rules.specs.declared.Entry.{Entry}
 use Rattle.rules.specs.declared.Partition.{Partition}
 use Rattle.laws.proofs.Laws.Store.{own-area}
 use Rattle.laws.proofs.Laws.WellFormed.{areas-facts}
+use Rattle.area.specs.Area.{baseOf}
 use Rattle.area.specs.Load.{partitionIn}
 use Rattle.lent.specs.Shapes.{turned}
 use Rattle.totals.specs.Places.{fromOf, toOf}
-use Rattle.totals.specs.Reach.{inReach, noTop, topTurn, cutsOf}
+use Rattle.totals.specs.Reach.{noTop, topTurn, cutsOf, shows}
 use Rattle.totals.specs.Weighed.{noTally, closedOf, tallyTurn}
 use Rattle.totals.specs.declared.Reach.{Reach}
 use Rattle.totals.specs.declared.Cuts.{Cuts}
 use Rattle.totals.specs.declared.Tally.{Tally}
 use Rattle.totals.proofs.Laws.Clearing.{reach-none, top-still}
-use Rattle.totals.proofs.Laws.Page.{page-shows}
-use Rattle.totals.proofs.Laws.Lot.{Placed, Lies, lot-turned, lot-weighs}
-use Rattle.partition_sound.specs.Sound.{entryOkBy, epochOkBy, partitionOkBy, beforeFirst, chained}
+use Rattle.totals.proofs.Laws.Lot.{Placed, Lies, lot-turned, lot-last, SeenRows, shows-all, lot-weighs}
+use Rattle.partition_sound.specs.Sound.{partitionOkBy, beforeFirst, chained}
 use Rattle.partition_sound.specs.Asked.{lengthsAre, spansOf, totalsAre, restAsked}
 use Rattle.partition_sound.specs.Pass.{stepOf}
-use Rattle.partition_sound.specs.Rest.{heldOf, startOf, begins, reachOf, wellBy, weighedTo, clearedTo}
-use Rattle.partition_sound.specs.Rest.{landingTo, judgedOf, lastAt, endAt, stopAt, newestAt, cutsAt, tallyAt}
+use Rattle.partition_sound.specs.Rest.{lowOf, heldOf, startOf, begins, reachOf, wellBy, weighedTo, isWhole}
+use Rattle.partition_sound.specs.Rest.{weighedFrom, clearedTo}
+use Rattle.partition_sound.specs.Rest.{landingTo, judgedOf, lastAt, endAt, stopAt, newestAt, cutsAt}
+use Rattle.partition_sound.specs.Rest.{tallyAt}
 use Rattle.partition_sound.specs.declared.Asked.{Asked}
 use Rattle.partition_sound.specs.declared.Last.{Last}
-use Rattle.partition_sound.proofs.Laws.Pass.{pass-chains, pass-cleared}
+use Rattle.partition_sound.proofs.Laws.Pass.{pass-chains, pass-cleared, pass-above}
 use Rattle.partition_sound.proofs.Laws.Sound.{partitionOkBy-pass, partitionOkBy-many}
+use Rattle.partition_sound.proofs.Laws.Well.{Parts, parts-of, epochs-spans, page-weighs, low-near}
 
--- a partition that is well, by its parts
-record Parts (c : Clock) (js : List ℕ) (es : List Entry) (q : Partition) : Type 0 where
-  fits : q .rows ≤ rowsMax
-  few : q .entries ≤ entriesMax
-  ends : endsOk (q .rows) 0 (part (entriesMax * q .area) (q .entries) es) ≡ true
-  low : All (λ e. 1 ≤ e .epoch) (part (entriesMax * q .area) (q .entries) es)
-
-parts-of : (c : Clock) (js : List ℕ) (es : List Entry) (q : Partition) → partitionOkBy c js es q ≡ true → Parts c js
-    es q
-unfolding partitionOkBy epochOkBy
-parts-of c js es q h =
-    let own = part (entriesMax * q .area) (q .entries) es in let x = leb (q .rows) rowsMax in
-    let y = leb (q .entries) entriesMax in let e = endsOk (q .rows) 0 own in let o = allOf (entryOkBy c js) own in
-    let xyeo = and-left (x && y && e && o) (apart own) h in let xye = and-left (x && y && e) o xyeo in
-    let xy = and-left (x && y) e xye in record {
-      fits = leb-true (q .rows) rowsMax (and-left x y xy); few = leb-true (q .entries) entriesMax (and-right x y xy);
-      ends = and-right (x && y) e xye;
-      low = All-imp _ _ (λ d g. leb-true 1 (d .epoch) (and-left _ _ (and-left _ _ (and-right (leb (d .mark) 1) _
-          g)))) own
-        (All-allOf (entryOkBy c js) own (and-right (x && y && e) o xyeo)) }
-
--- the spans' epochs are the entries'
-epochs-spans : (n : ℕ) (es : List Entry) (ws : List ℕ) → All (λ e. 1 ≤ e .epoch) es
-    → All (λ s. 1 ≤ s .epoch) (spans n es ws)
-unfolding spans
-epochs-spans n [] ws h = tt
-epochs-spans n (e ∷ es) ws h = (h .0, epochs-spans (e .end) es (drop (e .end - n) ws) (h .1))
-
-pub page-weighs : (lce : ℕ) (ss : List Span) → All (λ s. 1 ≤ s .epoch) ss
-    → weightBy (inReach (record { over = 0; high = lce; gone = 0 })) ss ≡ total lce ss
-unfolding weightBy total
-page-weighs lce ss h = ap weight (page-shows lce ss h)
+pub under-next : (p k : ℕ) → p < suc k → (p ≡ k → ⊥) → p < k
+under-next p k l ne = split (ltb p k) (λ t. ltb-true p k t) (λ f. absurd (ne (let g = ltb-false p k f in omega arith)))
 
 -- ---- the pass
 
@@ -129,17 +103,22 @@ module _ (es : List Entry) (rows : List ℕ) (a : Asked) where
     placed t = record { entries-length = len; inside = inside;
       few = leb-true (q .entries) entriesMax (and-right (leb (q .rows) rowsMax) (leb (q .entries) entriesMax) t) }
 
+    -- up to low an epoch is well
+    near : (j : ℕ) → 1 ≤ j → j ≤ lowOf a → (j < a .clock .ec) × (j ≤ a .clock .lce)
+    near j h k = let f = low-near a j h k in (f .0, f .1)
+
     last-is : counts ≡ true → last q ≡ foldl (stepOf (a .epochs) (heldOf a)) startOf own
     last-is t = lot-turned es q (placed t) (stepOf (a .epochs) (heldOf a)) startOf
 
     passed : counts ≡ true
-        → last q .ok && eqb (last q .entry .end) (q .rows) ≡ chained (a .clock) js (q .rows) beforeFirst own
-    passed t = ap (λ (s : Last). s .ok && eqb (s .entry .end) (q .rows)) (last-is t)
-        ∙ pass-chains (a .clock) (a .count) (a .epochs) (q .rows) startOf own
+        → last q .ok && eqb (last q .end) (q .rows) ≡ chained (a .clock) js (q .rows) beforeFirst own
+    passed t = ap (λ (s : Last). s .ok && eqb (s .end) (q .rows)) (last-is t)
+        ∙ pass-chains (a .clock) (a .count) (a .epochs) (lowOf a) near (q .rows) startOf beforeFirst own
+          (record { epoch = refl; end = refl })
 
     well-is : well ≡ okBy q
     well-is = split counts
-        (λ t. rw t (and-comm (eqb (last q .entry .end) (q .rows)) (last q .ok)
+        (λ t. rw t (and-comm (eqb (last q .end) (q .rows)) (last q .ok)
           ∙ (passed t ∙ sym (partitionOkBy-pass (a .clock) js es q t))))
         (λ n. rw n (sym (partitionOkBy-many (a .clock) js es q n)))
 
@@ -159,12 +138,18 @@ module _ (es : List Entry) (rows : List ℕ) (a : Asked) where
       end-is = rw w
 
       all-well : last q .ok ≡ true
-      all-well = and-right (counts && eqb (last q .entry .end) (q .rows)) (last q .ok) w
+      all-well = and-right (counts && eqb (last q .end) (q .rows)) (last q .ok) w
+
+      fold-well : foldl (stepOf (a .epochs) (heldOf a)) startOf own .ok ≡ true
+      fold-well = sym (ap (λ (s : Last). s .ok) (last-is counted)) ∙ all-well
 
       cleared-is : last q .cleared ≡ anyOf (λ e. eqb (e .mark) 1) own
       cleared-is = ap (λ (s : Last). s .cleared) (last-is counted)
-          ∙ pass-cleared (a .clock) (a .count) (a .epochs) own (sym (ap (λ (s : Last). s .ok) (last-is counted)) ∙
-              all-well)
+          ∙ pass-cleared (a .clock) (a .count) (a .epochs) (lowOf a) near own fold-well
+
+      above-is : last q .above ≡ anyOf (λ e. ltb (lowOf a) (e .epoch)) own
+      above-is = ap (λ (s : Last). s .above) (last-is counted)
+          ∙ pass-above (a .clock) (a .count) (a .epochs) (lowOf a) near own fold-well
 
       -- the greatest clearing among any epochs
       top-of : (r : Reach) → turned (topTurn r) noTop es (fromOf q) (stopAt es rows a q - fromOf q)
@@ -184,9 +169,42 @@ module _ (es : List Entry) (rows : List ℕ) (a : Asked) where
             (eqb-true (a .lands .high) (a .lands .over) t) (e .epoch)) (and-false (eqb (e .mark) 1))) own))))
         (λ f. rw f (top-of (a .lands)))
 
+      -- where it is whole each epoch is one that a page at low is shown, and no entry is a clearing
+      pub whole-all : isWhole (last q) ≡ true → All (λ e. SeenRows (lowOf a) e) own
+      whole-all t = All-both (λ e. 1 ≤ e .epoch) (λ e. (ltb (lowOf a) (e .epoch) ≡ false) × (eqb (e .mark) 1 ≡ false))
+          (λ e l h. record { some = l; seen = ltb-false (lowOf a) (e .epoch) (h .0); rows = h .1 }) own (parts .low)
+          (All-both (λ e. ltb (lowOf a) (e .epoch) ≡ false) (λ e. eqb (e .mark) 1 ≡ false) (λ e x y. (x, y)) own
+            (All-anyOf _ own (sym above-is ∙ not-true (last q .above) (and-left _ _ t)))
+            (All-anyOf _ own (sym cleared-is ∙ not-true (last q .cleared) (and-right (not (last q .above)) _ t))))
+
+      -- its rows are shown then
+      whole-turn : isWhole (last q) ≡ true → (n : ℕ) (e : Entry) → SeenRows (lowOf a) e
+          → shows (cuts q .shown) n (e .epoch) ≡ true
+      whole-turn t n e h = let no = top-still (reachOf a) noTop own (All-imp _ _ (λ d g. rw (g .rows)) own (whole-all
+            t)) in
+          rw (top-of (reachOf a), no) (shows-all (a .lce) (baseOf rowsMax (q .area)) n (e .epoch) (h .some)
+            (low-near a (e .epoch) (h .some) (h .seen) .2))
+
+      from-last : (c : Cuts) (end : ℕ) → end ≡ toOf q
+          → (isWhole (last q) ≡ true → (n : ℕ) (e : Entry) → SeenRows (lowOf a) e
+            → shows (c .shown) n (e .epoch) ≡ true)
+          → let first = weighedFrom (last q) (fromOf q) end in
+            turned (tallyTurn rows c) noTally es first (end - first) ≡ foldl (tallyTurn rows c) noTally own
+      unfolding weighedFrom
+      from-last c end is shown = rw is (split (isWhole (last q))
+        (λ t. split (ltb (fromOf q) (toOf q))
+          (λ l. rw (t, l) (lot-last es q (placed counted) (tallyTurn rows c) noTally (SeenRows (lowOf a))
+            (λ d e h k. rw (shown t 0 d h, shown t (d .end) e k, shown t 0 e k))
+            (whole-all t) (ltb-true (fromOf q) (toOf q) l)))
+          (λ l. rw (t, l) (lot-turned es q (placed counted) (tallyTurn rows c) noTally)))
+        (λ t. rw t (lot-turned es q (placed counted) (tallyTurn rows c) noTally)))
+
+      tally-all : tally q ≡ foldl (tallyTurn rows (cuts q)) noTally own
+      tally-all = from-last (cuts q) (endAt es rows a q) end-is whole-turn
+
       tally-is : tally q ≡ foldl (tallyTurn rows (cutsOf q (reachOf a) (foldl (topTurn (reachOf a)) noTop own)
           (a .lands) (foldl (topTurn (a .lands)) noTop own))) noTally own
-      tally-is = rw (top-of (reachOf a), newest-is, end-is) (lot-turned es q (placed counted) _ noTally)
+      tally-is = tally-all ∙ rw (top-of (reachOf a), newest-is)
 
       weighed-is : closedOf rows (cuts q .shown .base) (tally q) ≡ total (a .lce) (spansOf es rows q)
       unfolding spansOf
@@ -220,10 +238,7 @@ module _ (es : List Entry) (rows : List ℕ) (a : Asked) where
     upto-each zero h t p l = absurd (omega arith)
     upto-each (suc k) h t p l = let e = sym (upto-suc k h) ∙ t in
         let ih = upto-each k (omega arith) (and-left (okUpTo true k) (good k) e) p in
-        split-eq p k (λ s. rw s (and-right (okUpTo true k) (good k) e)) (λ ne. ih (under ne))
-      where
-        under : (p ≡ k → ⊥) → p < k
-        under ne = split (ltb p k) (λ t. ltb-true p k t) (λ f. absurd (ne (let g = ltb-false p k f in omega arith)))
+        split-eq p k (λ s. rw s (and-right (okUpTo true k) (good k) e)) (λ ne. ih (under-next p k l ne))
 
     each-upto : ((p : ℕ) → p < partitionsMax → good p ≡ true) → (k : ℕ) → k ≤ partitionsMax → okUpTo true k ≡ true
     unfolding okUpTo
@@ -265,15 +280,12 @@ module _ (es : List Entry) (rows : List ℕ) (a : Asked) where
         rw t (all-good le lr eight (areas-facts (a .partitions) eight r .inside)))
       (λ n. rw n (never partitionsMax))
 
-  -- each partition then lies well, and the passes over it find its newest clearing, and what it weighs
-  pub rest-each : length (a .partitions .at) ≡ partitionsMax → restAsked es rows a ≡ true → (p : ℕ) → p < partitionsMax
-      → let q = place p in let own = part (entriesMax * q .area) (q .entries) es in
-        let newest = foldl (topTurn (a .lands)) noTop own in
-        Lies es rows q × (newestAt es rows a q ≡ newest)
-        × (tallyAt es rows a q ≡ foldl (tallyTurn rows (cutsOf q (reachOf a) (foldl (topTurn (reachOf a)) noTop own)
-            (a .lands) newest)) noTally own)
+  -- each partition then is well
+  pub rest-well : length (a .partitions .at) ≡ partitionsMax → restAsked es rows a ≡ true → (p : ℕ) → p < partitionsMax
+      → (length es ≡ entriesMax * areasMax) × (length rows ≡ rowsMax * areasMax) × (place p .area < areasMax)
+        × (wellBy (place p) (last (place p)) ≡ true)
   unfolding restAsked lengthsAre
-  rest-each eight t p k =
+  rest-well eight t p k =
       let ps = a .partitions in let x = lengthsAre (length es) (length rows) in let z = allOf okBy (ps .at) in
       let xyz = and-left (x && areasOk ps && z) (totalsAre (a .totals) (a .lce) es rows ps) t in
       let xy = and-left (x && areasOk ps) z xyz in let l = and-left x (areasOk ps) xy in
@@ -282,5 +294,15 @@ module _ (es : List Entry) (rows : List ℕ) (a : Asked) where
       let i = areas-facts ps eight (and-right x (areasOk ps) xy) .inside p k in
       let o = All-getD (λ q. okBy q ≡ true) noPartition (ps .at) (All-allOf okBy (ps .at) (and-right (x && areasOk ps)
             z xyz)) p (omega (arith, eight, k)) in
-      let w = well-is le lr (place p) i ∙ o in
-      (lies le lr (place p) i w, newest-is le lr (place p) i w, tally-is le lr (place p) i w)
+      (le, lr, i, well-is le lr (place p) i ∙ o)
+
+  -- it lies well, and the passes over it find its newest clearing, and what it weighs
+  pub rest-each : length (a .partitions .at) ≡ partitionsMax → restAsked es rows a ≡ true → (p : ℕ) → p < partitionsMax
+      → let q = place p in let own = part (entriesMax * q .area) (q .entries) es in
+        let newest = foldl (topTurn (a .lands)) noTop own in
+        Lies es rows q × (newestAt es rows a q ≡ newest)
+        × (tallyAt es rows a q ≡ foldl (tallyTurn rows (cutsOf q (reachOf a) (foldl (topTurn (reachOf a)) noTop own)
+            (a .lands) newest)) noTally own)
+  rest-each eight t p k = let f = rest-well eight t p k in let q = place p in
+      (lies (f .0) (f .1) q (f .2) (f .3), newest-is (f .0) (f .1) q (f .2) (f .3),
+        tally-is (f .0) (f .1) q (f .2) (f .3))

@@ -68,22 +68,23 @@ use Rattle.totals.specs.declared.Cuts.{Cuts}
 use Rattle.totals.specs.declared.Tally.{Tally}
 use Rattle.shapes.proofs.Core.{totals}
 use Rattle.totals.proofs.Types.{reach, top, cuts, tally}
-use Rattle.partition_sound.specs.Rest.{heldOf, startOf, begins, reachOf, weighedTo, clearedTo, landingTo}
-use Rattle.partition_sound.specs.Rest.{judgedOf, landedAt, foundOf, lastAt, endAt, stopAt, topAt, newestAt}
-use Rattle.partition_sound.specs.Rest.{cutsAt, tallyAt, landedBelow}
+use Rattle.partition_sound.specs.Rest.{heldOf, startOf, beforeOf, begins, reachOf, weighedTo, weighedFrom}
+use Rattle.partition_sound.specs.Rest.{clearedTo, landingTo, judgedOf, landedAt, foundOf, lastAt, endAt}
+use Rattle.partition_sound.specs.Rest.{stopAt, topAt, newestAt, cutsAt, firstAt, tallyAt, landedBelow}
 use Rattle.partition_sound.specs.declared.Asked.{Asked}
+use Rattle.partition_sound.specs.declared.Landed.{Landed}
 use Rattle.partition_sound.specs.declared.Last.{Last}
 use Rattle.partition_sound.specs.declared.Verdict.{Verdict}
 use Rattle.partition_sound.proofs.Laws.Rest.{okUpTo, rest-found}
-use Rattle.partition_sound.proofs.Types.{last, held as records, epochs, asked, verdict}
+use Rattle.partition_sound.proofs.Types.{last, held as records, epochs, asked, landed, verdict}
 use Rattle.partition_sound.proofs.rest_of.Proof.Callees.{passOf, findOf, tallyOf, Known, knowns}
 use Rattle.partition_sound.proofs.rest_of.Key.{name as #rest-of}
 use Rattle.partition_sound.proofs.rest_of as f
 use Rattle.partition_sound.proofs.rest_of.Statement as stated
 use Rattle.partition_sound.proofs.rest_of.Code as code
 
--- the result, the parameters, what stands before the loop, ok, the totals and p; behind the epochs, in local 17, what
--- stands in it
+-- the result, the parameters, what stands before the loop, ok, what is found and p; behind the epochs, in local 17,
+-- what stands in it
 abbrev firsts : List Local
 firsts = take 17 (code.function .locals)
 
@@ -170,6 +171,9 @@ module _ {M : Type 1} (𝓤 : URA M) (H : Heap 𝓤) (A : Atoms 𝓤) (W : Given
     abbrev c : ℕ → Cuts
     c i = cutsAt (x .list) (w .list) a (q i)
 
+    abbrev h : ℕ → ℕ
+    h i = firstAt (x .list) (w .list) a (q i)
+
     abbrev v : ℕ → Tally
     v i = tallyAt (x .list) (w .list) a (q i)
 
@@ -181,20 +185,24 @@ module _ {M : Type 1} (𝓤 : URA M) (H : Heap 𝓤) (A : Atoms 𝓤) (W : Given
     unfolding okUpTo
     ok-suc i = refl
 
-    -- the totals after i partitions
-    abbrev cur : ℕ → List ℕ
+    -- what is found of i partitions
+    abbrev cur : ℕ → Landed
     cur i = landedBelow (x .list) (w .list) a i
 
-    cur-0 : ts ≡ cur 0
+    cur-0 : beforeOf a ≡ cur 0
     unfolding landedBelow
     cur-0 = refl
 
-    cur-suc : (i : ℕ) → landedAt (cur i) i (u i) (v i) ≡ cur (suc i)
+    -- with one more
+    abbrev fol : ℕ → Landed
+    fol i = landedAt (cur i) i (l i) (u i) (v i)
+
+    cur-suc : (i : ℕ) → fol i ≡ cur (suc i)
     unfolding landedBelow
     cur-suc i = refl
 
-    abbrev Own : List ℕ → Item 𝓤
-    Own z = ‵ (totals .row .own z (totals .val z ∷ []))
+    abbrev Own : Landed → Item 𝓤
+    Own z = ‵ (landed .row .own z (landed .val z ∷ []))
 
     abbrev ans : Verdict
     ans = foundOf (ok partitionsMax) (cur partitionsMax)
@@ -227,12 +235,12 @@ module _ {M : Type 1} (𝓤 : URA M) (H : Heap 𝓤) (A : Atoms 𝓤) (W : Given
         abbrev En : Env 𝓤 H
         En = Fs ++ ((epochs .mir, b) ∷ (Gs ++ []))
 
-        -- the first locals at ok, the totals and p
-        abbrev Kept : Bool → List ℕ → ℕ → Item 𝓤
+        -- the first locals at ok, what is found and p
+        abbrev Kept : Bool → Landed → ℕ → Item 𝓤
         Kept o z j = Frame Fs (bare ∷ holds (held x) ∷ holds (held w) ∷ holds (asked .val a) ∷ holds (vint w64 n) ∷
             holds (vint w64 m) ∷ holds (records .val (heldOf a)) ∷ holds (places .val ps) ∷ holds (totals .val ts) ∷
             holds (reach .val r) ∷ holds (reach .val g) ∷ holds (last .val startOf) ∷ holds (top .val noTop) ∷ holds
-            (tally .val noTally) ∷ holds (vbool o) ∷ holds (totals .val z) ∷ holds (vint w64 j) ∷ [])
+            (tally .val noTally) ∷ holds (vbool o) ∷ holds (landed .val z) ∷ holds (vint w64 j) ∷ [])
 
         module _ (gh : Is (records .row) (heldOf a) (records .val (heldOf a) ∷ [])) (gp : Is (places .row) ps (places
             .val ps ∷ [])) (gk : Is (totals .row) ts (totals .val ts ∷ [])) (gr : Is (reach .row) r (reach .val r ∷
@@ -266,12 +274,12 @@ module _ {M : Type 1} (𝓤 : URA M) (H : Heap 𝓤) (A : Atoms 𝓤) (W : Given
           more k i less eq =
               let fits : i < 2 ^ 64 = omega (arith, less) in let next-fits : i + 1 < 2 ^ 64 = omega (arith, less) in
               let suc-fits : suc i < 2 ^ 64 = omega (arith, less) in
-              move ! (10 ∷ []) $ peeks ! (totals .row) (Is (totals .row)) (shows 𝓤 H A (totals .row)) (cur i) (totals
+              move ! (10 ∷ []) $ peeks ! (landed .row) (Is (landed .row)) (shows 𝓤 H A (landed .row)) (cur i) (landed
                   .val (cur i) ∷ []) (λ gc. drop ! $
               assigns ! (as-value (ap vbool (lt-ltb i partitionsMax less)) (bin ! (get ! 6 16 refl refl refl) (lit ! tt)
-                  tt)) (from ! (stop !)) (sets ! 7 12 refl tt (tt, tt)) $ stays ! (get ! 7 12 refl refl refl) $
-              yield-call fm place (places ∷ number ∷ []) partitionIn (known .place-of) (ps, (i, tt)) (gp, ((refl, fits),
-                  tt))
+                  tt)) (from ! (stop !)) (sets ! 7 13 refl tt (tt, tt)) $ stays ! (get ! 7 13 refl refl refl) $
+              yield-call fm place (places ∷ number ∷ []) partitionIn (known .each-place) (ps, (i, tt)) (gp, ((refl,
+                  fits), tt))
               (λ _. and-then ! (get ! 7 7 refl refl refl) (and-then ! (get ! 7 16 refl refl refl) (no-more !))) (λ gq.
               land ! (from ! (stop !)) (sets ! 7 0 refl tt (place .wt 𝓤 H A W (q i) gq)) $
               yield-call fm number (place ∷ []) fromOf (known .from-of) (q i, tt) (gq, tt)
@@ -280,12 +288,12 @@ module _ {M : Type 1} (𝓤 : URA M) (H : Heap 𝓤) (A : Atoms 𝓤) (W : Given
               yield-call fm number (place ∷ []) toOf (known .to-of) (q i, tt) (gq, tt)
               (λ _. and-then ! (get ! 8 0 refl refl refl) (no-more !)) (λ gt.
               land ! (from ! (stop !)) (sets ! 7 2 refl tt (tt, record { fits = gt .1 })) $
-              assigns ! (addr ! (from ! (stop !))) (from ! (stop !)) (sets ! 7 13 refl tt (tt, tt)) $
-              assigns ! (agg ! (and-then ! (get ! 7 13 refl refl refl) (and-then ! (lit ! tt) (no-more !)))) (from !
-                  (stop !)) (sets ! 7 14 refl tt (tt, (tt, (record { fits = lit< tt }, tt)))) $
+              assigns ! (addr ! (from ! (stop !))) (from ! (stop !)) (sets ! 7 14 refl tt (tt, tt)) $
+              assigns ! (agg ! (and-then ! (get ! 7 14 refl refl refl) (and-then ! (lit ! tt) (no-more !)))) (from !
+                  (stop !)) (sets ! 7 15 refl tt (tt, (tt, (record { fits = lit< tt }, tt)))) $
               find2-call fm T.the-row u64 last (records ∷ last ∷ number ∷ number ∷ []) passOf (known .pass) x y (heldOf
                   a, (startOf, (fromOf (q i), (toOf (q i), tt)))) (gh, (gs, (gf, (gt, tt))))
-              (λ _ _ _. and-then ! (get ! 5 1 refl refl refl) (and-then ! (as-long ! len (get ! 6 14 refl refl refl))
+              (λ _ _ _. and-then ! (get ! 5 1 refl refl refl) (and-then ! (as-long ! len (get ! 6 15 refl refl refl))
                   (and-then ! (get ! 5 6 refl refl refl) (and-then ! (get ! 5 11 refl refl refl) (and-then ! (get ! 6 1
                   refl refl refl) (and-then ! (get ! 6 2 refl refl refl) (no-more !))))))) (λ gl.
               land ! (from ! (stop !)) (sets ! 7 3 refl tt (last .wt 𝓤 H A W (l i) gl)) $
@@ -324,12 +332,17 @@ module _ {M : Type 1} (𝓤 : URA M) (H : Heap 𝓤) (A : Atoms 𝓤) (W : Given
                   refl refl refl) (and-then ! (get ! 7 10 refl refl refl) (and-then ! (get ! 8 8 refl refl refl)
                   (no-more !)))))) (λ gm.
               land ! (from ! (stop !)) (sets ! 7 9 refl tt (cuts .wt 𝓤 H A W (c i) gm)) $
+              yield-call fm number (last ∷ number ∷ number ∷ []) weighedFrom (known .weighed-from) (l i, (fromOf (q i),
+                  (e i, tt))) (gl, (gf, (ge, tt)))
+              (λ _. and-then ! (get ! 8 3 refl refl refl) (and-then ! (get ! 8 1 refl refl refl) (and-then ! (get ! 8 4
+                  refl refl refl) (no-more !)))) (λ gh′.
+              land ! (from ! (stop !)) (sets ! 7 10 refl tt (tt, record { fits = gh′ .1 })) $
               find2-call fm T.the-row u64 tally (cuts ∷ tally ∷ number ∷ number ∷ []) tallyOf (known .weigh) x w (c i,
-                  (noTally, (fromOf (q i), (e i, tt)))) (gm, (gy, (gf, (ge, tt))))
+                  (noTally, (h i, (e i, tt)))) (gm, (gy, (gh′, (ge, tt))))
               (λ _ _ _. and-then ! (get ! 5 1 refl refl refl) (and-then ! (get ! 5 2 refl refl refl) (and-then ! (get !
-                  6 9 refl refl refl) (and-then ! (get ! 5 13 refl refl refl) (and-then ! (get ! 6 1 refl refl refl)
+                  6 9 refl refl refl) (and-then ! (get ! 5 13 refl refl refl) (and-then ! (get ! 6 10 refl refl refl)
                   (and-then ! (get ! 6 4 refl refl refl) (no-more !))))))) (λ gv.
-              land ! (from ! (stop !)) (sets ! 7 10 refl tt (tally .wt 𝓤 H A W (v i) gv)) $
+              land ! (from ! (stop !)) (sets ! 7 11 refl tt (tally .wt 𝓤 H A W (v i) gv)) $
               -- [the rows; the entries; the epochs; the first locals; the others]
               move ! (2 ∷ 3 ∷ []) $
               find-call fm u64 flag (flag ∷ totals ∷ number ∷ place ∷ last ∷ cuts ∷ tally ∷ []) judgedOf (known .judged)
@@ -337,22 +350,23 @@ module _ {M : Type 1} (𝓤 : URA M) (H : Heap 𝓤) (A : Atoms 𝓤) (W : Given
                   tt)))))))
               (λ _ _. and-then ! (get ! 6 2 refl refl refl) (and-then ! (get ! 6 14 refl refl refl) (and-then ! (get ! 6
                   8 refl refl refl) (and-then ! (get ! 6 16 refl refl refl) (and-then ! (get ! 7 0 refl refl refl)
-                  (and-then ! (get ! 7 3 refl refl refl) (and-then ! (get ! 7 9 refl refl refl) (and-then ! (get ! 7 10
+                  (and-then ! (get ! 7 3 refl refl refl) (and-then ! (get ! 7 9 refl refl refl) (and-then ! (get ! 7 11
                   refl refl refl) (no-more !))))))))) (λ _.
               land ! (from ! (stop !)) (sets ! 6 14 refl tt (tt, tt)) $
-              yield-call fm totals (totals ∷ number ∷ top ∷ tally ∷ []) landedAt (known .landed-at) (cur i, (i, (u i, (v
-                  i, tt)))) (gc, ((refl, fits), (gw, (gv, tt))))
+              yield-call fm landed (landed ∷ number ∷ last ∷ top ∷ tally ∷ []) landedAt (known .landed-at) (cur i, (i,
+                  (l i, (u i, (v i, tt))))) (gc, ((refl, fits), (gl, (gw, (gv, tt)))))
               (λ _. and-then ! (get ! 7 15 refl refl refl) (and-then ! (get ! 7 16 refl refl refl) (and-then ! (get ! 8
-                  8 refl refl refl) (and-then ! (get ! 8 10 refl refl refl) (no-more !))))) (λ gx.
-              land ! (from ! (stop !)) (sets ! 6 15 refl tt (totals .wt 𝓤 H A W (landedAt (cur i) i (u i) (v i)) gx)) $
+                  3 refl refl refl) (and-then ! (get ! 8 8 refl refl refl) (and-then ! (get ! 8 11 refl refl refl)
+                  (no-more !)))))) (λ gx.
+              land ! (from ! (stop !)) (sets ! 6 15 refl tt (landed .wt 𝓤 H A W (fol i) gx)) $
               assigns-last ! (as-value (ap (vint w64) (add-one i)) (bin ! (get ! 6 16 refl refl refl) (lit ! tt) (record
                   { fits = next-fits }))) (from ! (stop !)) (sets ! 6 16 refl tt (tt, record { fits = suc-fits })) $
               move ! (7 ∷ []) $ empties ! $ move ! (3 ∷ 4 ∷ 5 ∷ 6 ∷ 1 ∷ 2 ∷ 7 ∷ []) $
-              owned ! (totals .row) (Is (totals .row)) (totals .makes 𝓤 H A W) (landedAt (cur i) i (u i) (v i)) _ gx $
+              owned ! (landed .row) (Is (landed .row)) (landed .makes 𝓤 H A W) (fol i) _ gx $
               move ! (1 ∷ 2 ∷ 3 ∷ 4 ∷ 5 ∷ 6 ∷ 7 ∷ 8 ∷ 9 ∷ 10 ∷ []) $
-              rewrite ! 6 (λ (o : Bool). Kept o (landedAt (cur i) i (u i) (v i)) (suc i)) (ok-suc i) refl $
-              rewrite ! 6 (λ (z : List ℕ). Kept (ok (suc i)) z (suc i)) (cur-suc i) refl $
-              rewrite ! 10 (λ (z : List ℕ). Own z) (cur-suc i) refl $ goes-on))))))))))))))
+              rewrite ! 6 (λ (o : Bool). Kept o (fol i) (suc i)) (ok-suc i) refl $
+              rewrite ! 6 (λ (z : Landed). Kept (ok (suc i)) z (suc i)) (cur-suc i) refl $
+              rewrite ! 10 (λ (z : Landed). Own z) (cur-suc i) refl $ goes-on)))))))))))))))
             where
               goes-on : Sq W (Turned (suc i)) (prop (Below 𝓤 H A _<_ Inv (suc k)))
               goes-on = subst (λ (j : ℕ). Sq W (Turned j) (prop (Below 𝓤 H A _<_ Inv (suc k)))) {x = partitionsMax -
@@ -362,17 +376,17 @@ module _ {M : Type 1} (𝓤 : URA M) (H : Heap 𝓤) (A : Atoms 𝓤) (W : Given
           ends : Turns zero partitionsMax
           unfolding afterTurn
           ends =
-              move ! (10 ∷ []) $ peeks ! (totals .row) (Is (totals .row)) (shows 𝓤 H A (totals .row)) (cur
-                  partitionsMax) (totals .val (cur partitionsMax) ∷ []) (λ gc. drop ! $
-              assigns ! (bin ! (get ! 6 16 refl refl refl) (lit ! tt) tt) (from ! (stop !)) (sets ! 7 12 refl tt (tt,
+              move ! (10 ∷ []) $ peeks ! (landed .row) (Is (landed .row)) (shows 𝓤 H A (landed .row)) (cur
+                  partitionsMax) (landed .val (cur partitionsMax) ∷ []) (λ gc. drop ! $
+              assigns ! (bin ! (get ! 6 16 refl refl refl) (lit ! tt) tt) (from ! (stop !)) (sets ! 7 13 refl tt (tt,
                   tt)) $
-              leaves-loop ! (get ! 7 12 refl refl refl) $ exec ! (𝓣 .C) (𝓣 .Λ) En code.Mir.t-17 (atRet En Post) $
+              leaves-loop ! (get ! 7 13 refl refl refl) $ exec ! (𝓣 .C) (𝓣 .Λ) En code.Mir.t-17 (atRet En Post) $
               -- the epochs are an array again
               move ! (2 ∷ 8 ∷ []) $ back-shared-local ! tt u64 32 b α δ (a .epochs) len $
               value-out ! epochs refl (a .epochs) b (λ _.
               -- [the array; the entries; the epochs as they were lent; the rows; the first locals; the others; what
               -- frees the array]
-              yield-call fm verdict (flag ∷ totals ∷ []) foundOf (known .found) (ok partitionsMax, (cur partitionsMax,
+              yield-call fm verdict (flag ∷ landed ∷ []) foundOf (known .found) (ok partitionsMax, (cur partitionsMax,
                   tt)) (refl, (gc, tt))
               (λ _. and-then ! (get ! 7 14 refl refl refl) (and-then ! (get ! 7 15 refl refl refl) (no-more !))) (λ gv.
               land ! (from ! (stop !)) (sets ! 6 0 refl tt (verdict .wt 𝓤 H A W ans gv)) $
@@ -421,25 +435,25 @@ module _ {M : Type 1} (𝓤 : URA M) (H : Heap 𝓤) (A : Atoms 𝓤) (W : Given
                 (λ _. and-then ! (get ! 5 4 refl refl refl) (and-then ! (get ! 5 5 refl refl refl) (and-then ! (get ! 5
                 7 refl refl refl) (no-more !)))) (λ _.
             land ! (from ! (stop !)) (sets ! 4 14 refl tt (tt, tt)) $
-            yield-call fm totals (asked ∷ []) (λ a. a .totals) (known .totals-of) (a, tt) (ga, tt)
+            yield-call fm landed (asked ∷ []) beforeOf (known .before) (a, tt) (ga, tt)
                 (λ _. and-then ! (get ! 5 3 refl refl refl) (no-more !)) (λ gx.
-            land ! (from ! (stop !)) (sets ! 4 15 refl tt (totals .wt 𝓤 H A W ts gx)) $
+            land ! (from ! (stop !)) (sets ! 4 15 refl tt (landed .wt 𝓤 H A W (beforeOf a) gx)) $
             assigns ! (of-opd ! (lit ! tt)) (from ! (stop !)) (sets ! 4 16 refl tt (tt, record { fits = lit< tt })) $
             yield-call fm epochs (asked ∷ []) (λ a. a .epochs) (known .epochs-in) (a, tt) (ga, tt)
                 (λ _. and-then ! (get ! 5 3 refl refl refl) (no-more !)) (λ ge.
-            land ! (from ! (stop !)) (sets ! 5 11 refl tt (epochs .wt 𝓤 H A W (a .epochs) ge)) $
-            assigns ! (of-opd ! (get ! 5 11 refl refl refl)) (from ! (stop !)) (init ! 6 refl (epochs .wt 𝓤 H A W (a
+            land ! (from ! (stop !)) (sets ! 5 12 refl tt (epochs .wt 𝓤 H A W (a .epochs) ge)) $
+            assigns ! (of-opd ! (get ! 5 12 refl refl refl)) (from ! (stop !)) (init ! 6 refl (epochs .wt 𝓤 H A W (a
                 .epochs) ge)) $
-            rewrite ! 4 (λ (o : Bool). Kept o ts 0) ok-0 refl $ rewrite ! 4 (λ (z : List ℕ). Kept (ok 0) z 0) cur-0
-                refl $ move ! (5 ∷ []) $ empties ! $
+            rewrite ! 4 (λ (o : Bool). Kept o (beforeOf a) 0) ok-0 refl $ rewrite ! 4 (λ (z : Landed). Kept (ok 0) z 0)
+                cur-0 refl $ move ! (5 ∷ []) $ empties ! $
             -- [the others; the entries; the rows; the first locals; the array; what frees it]
             move ! (6 ∷ []) $ value-in ! epochs refl (a .epochs) b ge $
             shares-local ! tt u64 32 tt b (a .epochs) (lit< tt, lit< tt) (λ α δ len.
             -- [the epochs, lent; what is kept of them; the others; the entries; the rows; the first locals; what frees
             -- the array]
             move ! (4 ∷ 5 ∷ 0 ∷ 1 ∷ 6 ∷ 7 ∷ 8 ∷ 3 ∷ 2 ∷ []) $
-            owned ! (totals .row) (Is (totals .row)) (totals .makes 𝓤 H A W) ts _ gx $
-            move ! (1 ∷ 2 ∷ 3 ∷ 4 ∷ 5 ∷ 6 ∷ 7 ∷ 8 ∷ 9 ∷ 10 ∷ []) $ rewrite ! 10 (λ (z : List ℕ). Own z) cur-0 refl $
+            owned ! (landed .row) (Is (landed .row)) (landed .makes 𝓤 H A W) (beforeOf a) _ gx $
+            move ! (1 ∷ 2 ∷ 3 ∷ 4 ∷ 5 ∷ 6 ∷ 7 ∷ 8 ∷ 9 ∷ 10 ∷ []) $ rewrite ! 10 (λ (z : Landed). Own z) cur-0 refl $
             first ! $ blocks ! $ starts gh gp gk gr gg gs gn gy α δ len))))))))))))
 
       walk : ent 𝓤 (onEntry 𝓤 H A f.signature κs qs xs xvs) (WpFn 𝓤 H (𝓣 .C) (𝓣 .Λ) code.function passed Post)

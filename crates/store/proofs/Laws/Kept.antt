@@ -101,7 +101,7 @@ module _ (s : State) (n : length (s .partitions .at) ≡ partitionsMax) (n′ : 
         let ok = sound-facts st n (manager-passed c (sound st) m t) in
         let f = and-left (restIn s es rs) (managerOk m) y in let h = managerAfter c m .clock .lce in
         let e = ap (λ k. landedBelow es rs (askedFor (s .clock) (s .writers) (s .partitions) (s .totals) k 0)
-              partitionsMax) (reached-is c (and-right (restIn s es rs) (managerOk m) y))
+              partitionsMax .totals) (reached-is c (and-right (restIn s es rs) (managerOk m) y))
               ∙ lands-commit st ok n n′ h up (rest-for s es rs h 0 ∙ f) in
         rw t (refl, λ j. storeOf (stateOf (managerAfter c m) (s .partitions) (e j)) rs es))
       (λ f. rw f (refl, refl)))

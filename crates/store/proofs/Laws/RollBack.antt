@@ -77,8 +77,8 @@ module _ (s : State) (n : length (s .partitions .at) ≡ partitionsMax) (n′ : 
   fresh : SoundOk st → restIn s es rs ≡ true → managerOk m ≡ true → hasOpen i m ≡ true
       → found .totals ≡ totalsOf (withManager next (rolledBackBelow i partitionsMax st))
   fresh ok f g o = let h = next .clock .lce in
-      ap (λ k. landedBelow es rs (askedFor (s .clock) (s .writers) (s .partitions) (s .totals) k i) partitionsMax)
-        (lce-after false i s g)
+      ap (λ k. landedBelow es rs (askedFor (s .clock) (s .writers) (s .partitions) (s .totals) k i) partitionsMax
+        .totals) (lce-after false i s g)
       ∙ (lands-rollback st ok n n′ h rises i (hasOpen-range m (ok .shape .manager) i o .0) (rest-for s es rs h i ∙ f)
       ∙ sym (totals-by (withManager next (rolledBackBelow i partitionsMax st))
         (λ p. total h (rolledBack i (spansAt p st))) (at-left ok)))

@@ -1,15 +1,20 @@
 -- One partition (01: lot) of a sound store among the lent entries and rows: the passes over its entries weigh what is
 -- shown of it, and what lands. Definitions: specs/Places.antt, specs/Reach.antt.
--- In order: where it lies, a pass over its entries, the rows that are shown and what they weigh.
+-- In order: where it lies, a pass over its entries, or over the last alone where that tells as much; a clearing-free
+-- cut; the rows that are shown and what they weigh.
 -- Assumes nothing.
-use mathlib.Core.Path.{_≡_, ap, _∙_}
-use mathlib.Core.Bool.{true}
+use mathlib.Core.Path.{_≡_, refl, sym, ap, subst, _∙_}
+use mathlib.Core.Bool.{true, false}
 use mathlib.Core.List.{List, foldl}
-use Prim.Native.Nat.{ℕ, _+_, _-_, _*_, _≤_, _<_}
+use Prim.Native.Nat.{ℕ, zero, suc, _+_, _-_, _*_, _≤_, _<_}
 use native.Mathlib.Omega.{arith}
-use lib.ListN.{length}
-use borrow.Author.Tests.{lt-ltb, le-leb}
+use lib.ListN.{length, drop, getD, length-take, length-drop}
+use lib.Seq.{getD-take, getD-drop}
+use lib.Dec.{ltb, eqb}
+use borrow.Author.Tests.{lt-ltb, le-leb, ne-eqb}
 use Rattle.lists.specs.Lists.{part}
+use Rattle.lists.proofs.Laws.All.{All, All-getD}
+use Rattle.lists.proofs.Laws.Bools.{split}
 use Rattle.rules.specs.Limits.{rowsMax, entriesMax, areasMax}
 use Rattle.rules.specs.Span.{Span, spans}
 use Rattle.rules.specs.Hides.{shown}
@@ -17,10 +22,11 @@ use Rattle.rules.specs.Weight.{weightBy}
 use Rattle.rules.specs.WellFormed.{endsOk}
 use Rattle.rules.specs.declared.Entry.{Entry}
 use Rattle.rules.specs.declared.Partition.{Partition}
+use Rattle.lent.specs.Entries.{none}
 use Rattle.lent.specs.Shapes.{turned}
 use Rattle.lent.proofs.Turned.{turned-part}
 use Rattle.totals.specs.Places.{inPlace, fromOf, toOf}
-use Rattle.totals.specs.Reach.{inReach, noTop, topTurn, cutOf, cutsOf}
+use Rattle.totals.specs.Reach.{inReach, pageReach, noTop, topTurn, farthest, cutOf, cutsOf, shows}
 use Rattle.totals.specs.Weighed.{noTally, closedOf, tallyTurn}
 use Rattle.totals.specs.declared.Reach.{Reach}
 use Rattle.totals.specs.declared.Top.{Top}
@@ -59,6 +65,47 @@ module _ (es : List Entry) (q : Partition) (P : Placed es q) where
   lot-turned f a = let u = from-is in let v = to-is in let n : toOf q - fromOf q ≡ q .entries = omega arith in
       let m = P .few in let i = P .inside in let l = P .entries-length in
       rw n (turned-part f a es (fromOf q) (q .entries) (omega arith) ∙ ap (λ k. foldl f a (part k (q .entries) es)) u)
+
+  -- where an entry leaves the same whatever stood before it, the last alone tells
+  module _ {X : Type 0} (f : X → Entry → X) (a : X) (G : Entry → Type 0)
+      (forgets : (d e : Entry) → G d → G e → f (f a d) e ≡ f a e) where
+    last-alone : (i n : ℕ) → ((j : ℕ) → j < suc n → G (getD es (i + j) none))
+        → turned f a es i (suc n) ≡ f a (getD es (i + n) none)
+    unfolding turned
+    last-alone i zero h = refl
+    last-alone i (suc n) h = ap (λ z. f z (getD es (i + suc n) none)) (last-alone i n (λ j k. h j (omega arith)))
+        ∙ forgets (getD es (i + n) none) (getD es (i + suc n) none) (h n (omega arith)) (h (suc n) (omega arith))
+
+    pub lot-last : All G (part (entriesMax * q .area) (q .entries) es) → fromOf q < toOf q
+        → turned f a es (toOf q - 1) (toOf q - (toOf q - 1)) ≡ foldl f a (part (entriesMax * q .area) (q .entries) es)
+    unfolding turned
+    lot-last h more = let u = from-is in let v = to-is in let m = P .few in let i = P .inside in
+        let l = P .entries-length in let base = entriesMax * q .area in let k = toOf q - fromOf q - 1 in
+        let one : toOf q - (toOf q - 1) ≡ 1 = omega arith in let n : toOf q - fromOf q ≡ suc k = omega arith in
+        let at : fromOf q + k ≡ toOf q - 1 + 0 = omega arith in
+        let long : length (part base (q .entries) es) ≡ q .entries
+              = omega (arith, length-take (q .entries) (drop base es), length-drop base es) in
+        let own : (j : ℕ) → j < suc k → G (getD es (fromOf q + j) none) = λ j less.
+              subst (λ i. G (getD es (i + j) none)) (sym u) (subst G (getD-take (q .entries) (drop base es) j none
+                (omega arith) ∙ getD-drop base es j none) (All-getD G none (part base (q .entries) es) h j
+                (omega (arith, long, less)))) in
+        rw one (ap (λ j. f a (getD es j none)) (sym at) ∙ (sym (last-alone (fromOf q) k own)
+          ∙ (ap (turned f a es (fromOf q)) (sym n) ∙ lot-turned f a)))
+
+-- ---- a cut without a clearing shows all epochs of a page
+
+-- an entry of rows of an epoch that a page at e sees
+pub record SeenRows (e : ℕ) (d : Entry) : Type 0 where
+  pub some : 1 ≤ d .epoch
+  pub seen : d .epoch ≤ e
+  pub rows : eqb (d .mark) 1 ≡ false
+
+pub shows-all : (e base n j : ℕ) → 1 ≤ j → j ≤ e → shows (cutOf (pageReach e) noTop base) n j ≡ true
+unfolding shows
+shows-all e base n j h k = let z : (j ≡ 0 → ⊥) = λ y. omega arith in
+    split (ltb n farthest)
+    (λ t. rw (le-leb j e k, ne-eqb j 0 z, t, lt-ltb 0 j h))
+    (λ t. rw (le-leb j e k, ne-eqb j 0 z, t, le-leb 0 j (omega arith)))
 
 -- ---- what it weighs
 

@@ -20,8 +20,8 @@ use Rattle.shapes.proofs.Two.{Finds2}
 use Rattle.lent.specs.Shapes.{turned}
 use Rattle.area.specs.Load.{partitionIn}
 use Rattle.area.proofs.Types.{place, places}
-use Rattle.area.proofs.place_of.Symbol as place-of-def
-use Rattle.area.proofs.place_of.Met as place-of-thm
+use Rattle.area.proofs.each_place.Symbol as each-place-def
+use Rattle.area.proofs.each_place.Met as each-place-thm
 use Rattle.totals.specs.Places.{fromOf, toOf}
 use Rattle.totals.specs.Reach.{noTop, topTurn, cutsOf}
 use Rattle.totals.specs.Weighed.{noTally, tallyTurn}
@@ -32,11 +32,11 @@ use Rattle.totals.specs.declared.Tally.{Tally}
 use Rattle.shapes.proofs.Core.{totals}
 use Rattle.totals.proofs.Types.{reach, top, cuts, tally}
 use Rattle.partition_sound.specs.Pass.{stepOf}
-use Rattle.partition_sound.specs.Rest.{heldOf, startOf, begins, reachOf, weighedTo, clearedTo, landingTo}
-use Rattle.partition_sound.specs.Rest.{judgedOf, landedAt, foundOf}
+use Rattle.partition_sound.specs.Rest.{heldOf, startOf, beforeOf, begins, reachOf, weighedTo, weighedFrom}
+use Rattle.partition_sound.specs.Rest.{clearedTo, landingTo, judgedOf, landedAt, foundOf}
 use Rattle.partition_sound.specs.declared.Held.{Held}
 use Rattle.partition_sound.specs.declared.Last.{Last}
-use Rattle.partition_sound.proofs.Types.{last, held as records, epochs, asked, verdict}
+use Rattle.partition_sound.proofs.Types.{last, held as records, epochs, asked, landed, verdict}
 use Rattle.partition_sound.proofs.pass.pass.Symbol as pass-def
 use Rattle.partition_sound.proofs.pass.pass.Met as pass-thm
 use Rattle.partition_sound.proofs.rest.held_of.Symbol as held-of-def
@@ -47,6 +47,8 @@ use Rattle.partition_sound.proofs.rest.places_of.Symbol as places-of-de
 use Rattle.partition_sound.proofs.rest.places_of.Met as places-of-thm
 use Rattle.partition_sound.proofs.rest.totals_of.Symbol as totals-of-def
 use Rattle.partition_sound.proofs.rest.totals_of.Met as totals-of-thm
+use Rattle.partition_sound.proofs.rest.before.Symbol as before-def
+use Rattle.partition_sound.proofs.rest.before.Met as before-thm
 use Rattle.partition_sound.proofs.rest.reach_of.Symbol as reach-of-def
 use Rattle.partition_sound.proofs.rest.reach_of.Met as reach-of-thm
 use Rattle.partition_sound.proofs.rest.lands_of.Symbol as lands-of-def
@@ -57,6 +59,8 @@ use Rattle.partition_sound.proofs.rest.begin.Symbol as begin-def
 use Rattle.partition_sound.proofs.rest.begin.Met as begin-thm
 use Rattle.partition_sound.proofs.rest.weighed_to.Symbol as weighed-to-def
 use Rattle.partition_sound.proofs.rest.weighed_to.Met as weighed-to-thm
+use Rattle.partition_sound.proofs.rest.weighed_from.Symbol as weighed-from-def
+use Rattle.partition_sound.proofs.rest.weighed_from.Met as weighed-from-thm
 use Rattle.partition_sound.proofs.rest.cleared_to.Symbol as cleared-to-def
 use Rattle.partition_sound.proofs.rest.cleared_to.Met as cleared-to-thm
 use Rattle.partition_sound.proofs.rest.landing_to.Symbol as landing-to-def
@@ -104,6 +108,9 @@ module _ {M : Type 1} (𝓤 : URA M) (H : Heap 𝓤) (A : Atoms 𝓤) where
   abbrev TotalsOf : Contract 𝓤
   TotalsOf = Yields 𝓤 totals (asked ∷ []) (λ a. a .totals) H A
 
+  abbrev Before : Contract 𝓤
+  Before = Yields 𝓤 landed (asked ∷ []) beforeOf H A
+
   abbrev ReachOf : Contract 𝓤
   ReachOf = Yields 𝓤 reach (asked ∷ []) reachOf H A
 
@@ -122,8 +129,8 @@ module _ {M : Type 1} (𝓤 : URA M) (H : Heap 𝓤) (A : Atoms 𝓤) where
   abbrev Begin : Contract 𝓤
   Begin = Yields 𝓤 flag (number ∷ number ∷ places ∷ []) begins H A
 
-  abbrev PlaceOf : Contract 𝓤
-  PlaceOf = Yields 𝓤 place (places ∷ number ∷ []) partitionIn H A
+  abbrev EachPlace : Contract 𝓤
+  EachPlace = Yields 𝓤 place (places ∷ number ∷ []) partitionIn H A
 
   abbrev FromOf : Contract 𝓤
   FromOf = Yields 𝓤 number (place ∷ []) fromOf H A
@@ -136,6 +143,9 @@ module _ {M : Type 1} (𝓤 : URA M) (H : Heap 𝓤) (A : Atoms 𝓤) where
 
   abbrev WeighedTo : Contract 𝓤
   WeighedTo = Yields 𝓤 number (place ∷ last ∷ number ∷ number ∷ []) weighedTo H A
+
+  abbrev WeighedFrom : Contract 𝓤
+  WeighedFrom = Yields 𝓤 number (last ∷ number ∷ number ∷ []) weighedFrom H A
 
   abbrev ClearedTo : Contract 𝓤
   ClearedTo = Yields 𝓤 number (last ∷ number ∷ number ∷ []) clearedTo H A
@@ -156,10 +166,10 @@ module _ {M : Type 1} (𝓤 : URA M) (H : Heap 𝓤) (A : Atoms 𝓤) where
   Judged = Finds 𝓤 flag (flag ∷ totals ∷ number ∷ place ∷ last ∷ cuts ∷ tally ∷ []) u64 judgedOf H A
 
   abbrev LandedAt : Contract 𝓤
-  LandedAt = Yields 𝓤 totals (totals ∷ number ∷ top ∷ tally ∷ []) landedAt H A
+  LandedAt = Yields 𝓤 landed (landed ∷ number ∷ last ∷ top ∷ tally ∷ []) landedAt H A
 
   abbrev Found : Contract 𝓤
-  Found = Yields 𝓤 verdict (flag ∷ totals ∷ []) foundOf H A
+  Found = Yields 𝓤 verdict (flag ∷ landed ∷ []) foundOf H A
 
   -- what is known of them
   pub record Known (𝓣 : Tables 𝓤 H) : Type 2 where
@@ -167,17 +177,19 @@ module _ {M : Type 1} (𝓤 : URA M) (H : Heap 𝓤) (A : Atoms 𝓤) where
     pub epochs-in : Triple 𝓤 (𝓣 .C epochs-in-def.name) EpochsIn
     pub places-of : Triple 𝓤 (𝓣 .C places-of-def.name) PlacesOf
     pub totals-of : Triple 𝓤 (𝓣 .C totals-of-def.name) TotalsOf
+    pub before : Triple 𝓤 (𝓣 .C before-def.name) Before
     pub reach-of : Triple 𝓤 (𝓣 .C reach-of-def.name) ReachOf
     pub lands-of : Triple 𝓤 (𝓣 .C lands-of-def.name) LandsOf
     pub start : Triple 𝓤 (𝓣 .C start-def.name) Start
     pub no-top : Triple 𝓤 (𝓣 .C no-top-def.name) NoTop
     pub no-tally : Triple 𝓤 (𝓣 .C no-tally-def.name) NoTally
     pub begin : Triple 𝓤 (𝓣 .C begin-def.name) Begin
-    pub place-of : Triple 𝓤 (𝓣 .C place-of-def.name) PlaceOf
+    pub each-place : Triple 𝓤 (𝓣 .C each-place-def.name) EachPlace
     pub from-of : Triple 𝓤 (𝓣 .C from-of-def.name) FromOf
     pub to-of : Triple 𝓤 (𝓣 .C to-of-def.name) ToOf
     pub pass : Triple 𝓤 (𝓣 .C pass-def.name) Pass
     pub weighed-to : Triple 𝓤 (𝓣 .C weighed-to-def.name) WeighedTo
+    pub weighed-from : Triple 𝓤 (𝓣 .C weighed-from-def.name) WeighedFrom
     pub cleared-to : Triple 𝓤 (𝓣 .C cleared-to-def.name) ClearedTo
     pub find : Triple 𝓤 (𝓣 .C find-def.name) Find
     pub landing-to : Triple 𝓤 (𝓣 .C landing-to-def.name) LandingTo
@@ -199,6 +211,7 @@ knowns 𝓤 H 𝓜 𝓖 𝓡 = record {
     (places-of-thm.met 𝓤 H 𝓜 𝓖 𝓡);
   totals-of = cited 𝓤 H _ 𝓜 𝓡 code.env totals-of-def.name _ code.calls-partition-sound·rest·totals-of
     (totals-of-thm.met 𝓤 H 𝓜 𝓖 𝓡);
+  before = cited 𝓤 H _ 𝓜 𝓡 code.env before-def.name _ code.calls-partition-sound·rest·before (before-thm.met 𝓤 H 𝓜 𝓖 𝓡);
   reach-of = cited 𝓤 H _ 𝓜 𝓡 code.env reach-of-def.name _ code.calls-partition-sound·rest·reach-of
     (reach-of-thm.met 𝓤 H 𝓜 𝓖 𝓡);
   lands-of = cited 𝓤 H _ 𝓜 𝓡 code.env lands-of-def.name _ code.calls-partition-sound·rest·lands-of
@@ -207,12 +220,15 @@ knowns 𝓤 H 𝓜 𝓖 𝓡 = record {
   no-top = cited 𝓤 H _ 𝓜 𝓡 code.env no-top-def.name _ code.calls-totals·clearing·no-top (no-top-thm.met 𝓤 H 𝓜 𝓖 𝓡);
   no-tally = cited 𝓤 H _ 𝓜 𝓡 code.env no-tally-def.name _ code.calls-totals·shown·no-tally (no-tally-thm.met 𝓤 H 𝓜 𝓖 𝓡);
   begin = cited 𝓤 H _ 𝓜 𝓡 code.env begin-def.name _ code.calls-partition-sound·rest·begin (begin-thm.met 𝓤 H 𝓜 𝓖 𝓡);
-  place-of = cited 𝓤 H _ 𝓜 𝓡 code.env place-of-def.name _ code.calls-area·place-of (place-of-thm.met 𝓤 H 𝓜 𝓖 𝓡);
+  each-place = cited 𝓤 H _ 𝓜 𝓡 code.env each-place-def.name _ code.calls-area·each-place
+    (each-place-thm.met 𝓤 H 𝓜 𝓖 𝓡);
   from-of = cited 𝓤 H _ 𝓜 𝓡 code.env from-of-def.name _ code.calls-totals·from-of (from-of-thm.met 𝓤 H 𝓜 𝓖 𝓡);
   to-of = cited 𝓤 H _ 𝓜 𝓡 code.env to-of-def.name _ code.calls-totals·to-of (to-of-thm.met 𝓤 H 𝓜 𝓖 𝓡);
   pass = cited 𝓤 H _ 𝓜 𝓡 code.env pass-def.name _ code.calls-partition-sound·pass·pass (pass-thm.met 𝓤 H 𝓜 𝓖 𝓡);
   weighed-to = cited 𝓤 H _ 𝓜 𝓡 code.env weighed-to-def.name _ code.calls-partition-sound·rest·weighed-to
     (weighed-to-thm.met 𝓤 H 𝓜 𝓖 𝓡);
+  weighed-from = cited 𝓤 H _ 𝓜 𝓡 code.env weighed-from-def.name _ code.calls-partition-sound·rest·weighed-from
+    (weighed-from-thm.met 𝓤 H 𝓜 𝓖 𝓡);
   cleared-to = cited 𝓤 H _ 𝓜 𝓡 code.env cleared-to-def.name _ code.calls-partition-sound·rest·cleared-to
     (cleared-to-thm.met 𝓤 H 𝓜 𝓖 𝓡);
   find = cited 𝓤 H _ 𝓜 𝓡 code.env find-def.name _ code.calls-totals·clearing·find (find-thm.met 𝓤 H 𝓜 𝓖 𝓡);
