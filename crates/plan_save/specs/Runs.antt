@@ -3,11 +3,11 @@
 -- what the test of the lots found; the words of one partition, of all; what a plan reads of them.
 -- Laws: proofs/Laws/Joined.antt, proofs/Laws/Laid.antt, proofs/Laws/Shown.antt.
 -- Assumes nothing.
-use mathlib.Core.Bool.{_&&_, cond}
+use mathlib.Core.Bool.{Bool, false, _&&_, cond}
 use mathlib.Core.List.{List, [], _∷_, map}
 use Prim.Native.Nat.{ℕ, zero, suc, _+_, _-_, _*_, _/_, _%_}
-use lib.ListN.{set, replicate}
-use lib.Dec.{ltb}
+use lib.ListN.{set, getD, replicate}
+use lib.Dec.{ltb, leb}
 use Rattle.lists.specs.Lists.{part}
 use Rattle.rules.specs.Limits.{partitionsMax}
 use Rattle.rules.specs.Checkpoint.{sumOf}
@@ -91,10 +91,13 @@ abbrev pub laidTurn : Cut → Laid → Entry → Laid
 laidTurn c x e =
     let s = pendingTurn c (x .pending) e in record { pending = s; words = set (x .words) (placeIn s) (wordOf s) }
 
--- from where on the entries of partition p, which lies at q, are gone over for a page at e, where v was found: from the
--- first
+-- all rows of partition p are shown to a page at e, by what was found
+abbrev pub wholeAt : Verdict → ℕ → ℕ → Bool
+wholeAt v p e = leb (v .low) e && ltb p partitionsMax && getD (v .whole) p false
+
+-- from where on its entries are gone over, where it lies at q: the last alone tells where all rows are shown
 unfoldable pub soughtFrom : Partition → Verdict → ℕ → ℕ → ℕ
-soughtFrom q v p e = fromOf q
+soughtFrom q v p e = cond (wholeAt v p e && ltb (fromOf q) (toOf q)) (toOf q - 1) (fromOf q)
 
 -- what its greatest clearing leaves to the page; where its rows lie does not matter here
 abbrev pub pageCut : List Entry → Partition → Verdict → ℕ → ℕ → Cut

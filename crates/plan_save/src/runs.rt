@@ -136,11 +136,26 @@ pub(crate) fn width_in(w: u32) -> usize
     end - from
 }
 
-// From where on the entries of partition p, which lies at q, are gone over for a page at e, by what was found.
+// From where on the entries of partition p, which lies at q, are gone over for a page at e: by what was found, the last
+// alone tells where all rows are shown.
 fn sought_from(q: Partition, found: Verdict, p: usize, e: u64) -> usize
     ensures { λ r. ⌜ r ≡ soughtFrom q found p e ⌝ }
 {
-    from_of(q)
+    let from = from_of(q);
+    let to = to_of(q);
+    if e < found.low {
+        return from;
+    }
+    if PARTITIONS_MAX <= p {
+        return from;
+    }
+    if !found.whole[p] {
+        return from;
+    }
+    if to <= from {
+        return from;
+    }
+    to - 1
 }
 
 fn to_runs(at: [u32; WORDS_MAX]) -> Runs

@@ -27,7 +27,7 @@ use Rattle.plan_save.specs.Runs.{runsIn, runsOf, wordsAt}
 use Rattle.plan_save.specs.Save.{basesOf, refusedSave, sizeOfRuns, acceptedSave, saveWritten}
 use Rattle.laws.proofs.Laws.Each.{each-at}
 use Rattle.plan_save.proofs.Laws.Joined.{runRows}
-use Rattle.plan_save.proofs.Laws.Shown.{runs-ok, rows-at, counts-are}
+use Rattle.plan_save.proofs.Laws.Shown.{WholeShown, runs-ok, rows-at, counts-are}
 use Rattle.plan_save.proofs.Laws.Written.{written}
 
 pub refused-writes : (r : Refusal) (rows out : List ℕ) → saveWritten (refusedSave r) rows out ≡ out
@@ -39,7 +39,7 @@ gather-gather : {A B C : Type 0} (f : B → List C) (g : A → List B) (xs : Lis
 gather-gather f g [] = refl
 gather-gather f g (x ∷ xs) = gather-append f (g x) (gather g xs) ∙ rw (gather-gather f g xs)
 
-module _ (st : Store) (ok : StoreOk st) (v : Verdict) (e : ℕ) where
+module _ (st : Store) (ok : StoreOk st) (v : Verdict) (e : ℕ) (whole : WholeShown st v e) where
   abbrev ps : Partitions
   ps = st .state .partitions
 
@@ -67,16 +67,16 @@ module _ (st : Store) (ok : StoreOk st) (v : Verdict) (e : ℕ) where
 
   holds : (i : ℕ) → i < partitionsMax
       → gather (runRows (st .rows) (getD (basesOf ps) i 0)) (runsIn (wordsAt ws i)) ≡ shownAt e i st
-  holds i h = rw (base-at i h) (rows-at st ok v e i h)
+  holds i h = rw (base-at i h) (rows-at st ok v e whole i h)
 
   bodies : gather (bytesOf 8) (gather (λ p. shownAt e p st) partitionNumbers) ≡ bodiesOf c
   unfolding checkpointAt
   bodies = gather-gather (bytesOf 8) (λ p. shownAt e p st) partitionNumbers
 
   pub plan-size : sizeOfRuns ws ≡ length (encoded c)
-  plan-size = let n = length-encoded c eight in let s = ap bodySize (counts-are st ok v e) in omega arith
+  plan-size = let n = length-encoded c eight in let s = ap bodySize (counts-are st ok v e whole) in omega arith
 
   pub plan-writes : (out : List ℕ) → sizeOfRuns ws ≤ length out
       → saveWritten (acceptedSave ps ws e) (st .rows) out ≡ savedOver c out
   plan-writes out room = written (acceptedSave ps ws e) (st .rows) out c (λ p. shownAt e p st) eight epoch-same
-      (counts-are st ok v e) there (ok .rows-length) (runs-ok st ok v e) holds bodies refl room
+      (counts-are st ok v e whole) there (ok .rows-length) (runs-ok st ok v e whole) holds bodies refl room

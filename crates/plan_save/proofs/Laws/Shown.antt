@@ -1,18 +1,20 @@
 -- The runs of a sound store's partitions (01: lots) hold what a read-only transaction (01: page) is shown of them.
 -- Definitions: specs/Runs.antt; rules/specs/Hides.antt, rules/specs/Recovery.antt.
--- In order: a part that is kept; from where on a partition is gone over; the partitions below p; the rows of one
--- partition; how many.
+-- In order: a part that is kept; an entry over the one before it; from where on a partition is gone over; the
+-- partitions below p; the rows of one partition; how many.
 -- Assumes nothing.
-use mathlib.Core.Path.{_≡_, refl, sym, _∙_, ap}
+use mathlib.Core.Path.{_≡_, sym, _∙_, ap}
+use mathlib.Core.Bool.{true, cond}
 use mathlib.Core.List.{List, foldl, map}
 use Prim.Native.Nat.{ℕ, zero, suc, _+_, _-_, _*_, _≤_, _<_}
 use native.Mathlib.Omega.{arith}
 use lib.ListN.{length, take, drop, getD, length-take, length-replicate, getD-replicate}
-use lib.Seq.{take-take, getD-drop}
-use borrow.Author.Tests.{lt-ltb}
+use lib.Seq.{take-take, getD-drop, set-set}
+use lib.Dec.{ltb}
+use borrow.Author.Tests.{lt-ltb, ltb-true}
 use Rattle.lists.specs.Lists.{gather, part}
 use Rattle.lists.proofs.Laws.All.{All, All-imp}
-use Rattle.lists.proofs.Laws.Bools.{split-eq}
+use Rattle.lists.proofs.Laws.Bools.{split, split-eq}
 use Rattle.lists.proofs.Laws.Parts.{drop-take}
 use Rattle.rules.specs.Limits.{rowsMax, entriesMax, partitionsMax}
 use Rattle.rules.specs.Span.{Span}
@@ -28,10 +30,13 @@ use Rattle.totals.specs.Places.{fromOf, toOf}
 use Rattle.totals.specs.Reach.{pageReach, noTop, topTurn, cutOf, shows}
 use Rattle.totals.specs.declared.Cut.{Cut}
 use Rattle.totals.proofs.Laws.Page.{page-shows}
-use Rattle.totals.proofs.Laws.Lot.{Lies, lot-turned, topOf, lot-shown}
+use Rattle.totals.proofs.Laws.Clearing.{top-still}
+use Rattle.totals.proofs.Laws.Lot.{Lies, lot-turned, lot-last, SeenRows, shows-all, topOf, lot-shown}
 use Rattle.partition_sound.specs.declared.Verdict.{Verdict}
 use Rattle.plan_save.specs.Runs.{runsIn, sizeOf, runsMax, wordsMax, noWords, firstOf, wordOf, Laid, laidTurn}
-use Rattle.plan_save.specs.Runs.{soughtFrom, pageCut, laidBelow, runsOf, wordsAt, countsOf}
+use Rattle.plan_save.specs.Runs.{wholeAt, soughtFrom, pageCut, laidBelow, runsOf, wordsAt, countsOf}
+use Rattle.plan_save.specs.Runs.{pendingTurn, placeIn}
+use Rattle.plan_save.specs.declared.runs.Pending.{Pending}
 use Rattle.plan_save.proofs.Laws.Joined.{joined, RunOk, joined-ok, runRows, joined-rows, size-rows}
 use Rattle.plan_save.proofs.Laws.Laid.{Stands, Lays, lays}
 
@@ -42,15 +47,23 @@ part-kept n k m xs ys h e =
     let f = sym (take-take (k + m) n xs h) ∙ (ap (take (k + m)) e ∙ take-take (k + m) n ys h) in
     sym (drop-take k m xs) ∙ (ap (drop k) f ∙ drop-take k m ys)
 
--- ---- from where on a partition is gone over
+-- ---- an entry that is shown writes over the run of the one before it
 
-sought-all : (q : Partition) (v : Verdict) (p e : ℕ) → soughtFrom q v p e ≡ fromOf q
-unfolding soughtFrom
-sought-all q v p e = refl
+over-last : (c : Cut) (x : Laid) (d g : Entry) → ((n : ℕ) → shows c n (d .epoch) ≡ true)
+    → ((n : ℕ) → shows c n (g .epoch) ≡ true) → laidTurn c (laidTurn c x d) g ≡ laidTurn c x g
+unfolding pendingTurn placeIn
+over-last c x d g h k = let s = x .pending in
+    let to : Entry → Pending = λ y. record { at = s .at; from = s .from; end = y .end } in
+    rw (h (s .end), k (d .end), k (s .end)) (λ i. record { pending = to g;
+      words = set-set (x .words) (cond (ltb (s .at) wordsMax) (s .at) 0) (wordOf (to d)) (wordOf (to g)) i })
 
 -- ---- a sound store, of which v was found
 
-module _ (st : Store) (ok : StoreOk st) (v : Verdict) (e : ℕ) where
+-- of a partition that is whole by it a page at e is shown each entry
+abbrev pub WholeShown : Store → Verdict → ℕ → Type 0
+WholeShown st v e = (p : ℕ) → p < partitionsMax → wholeAt v p e ≡ true → All (SeenRows e) (entriesAt p st)
+
+module _ (st : Store) (ok : StoreOk st) (v : Verdict) (e : ℕ) (whole : WholeShown st v e) where
   abbrev es : List Entry
   es = st .entries
 
@@ -73,12 +86,30 @@ module _ (st : Store) (ok : StoreOk st) (v : Verdict) (e : ℕ) where
   few p h = let q = partitionAt p st in let f = lies p h .placed .few in
       omega (arith, length-take (q .entries) (drop (entriesMax * q .area) es))
 
-  -- to go over them from there on is to go over all
+  -- to go over them from there on is to go over all, where of shown entries the last alone tells
   sought-turned : {X : Type 0} (p : ℕ) → p < partitionsMax → (f : X → Entry → X) (a : X)
+      → (wholeAt v p e ≡ true → (d g : Entry) → SeenRows e d → SeenRows e g → f (f a d) g ≡ f a g)
       → let q = partitionAt p st in turned f a es (soughtFrom q v p e) (toOf q - soughtFrom q v p e)
         ≡ foldl f a (entriesAt p st)
-  sought-turned p h f a = let q = partitionAt p st in
-      ap (λ i. turned f a es i (toOf q - i)) (sought-all q v p e) ∙ lot-turned es q (lies p h .placed) f a
+  unfolding soughtFrom
+  sought-turned p h f a forgets = let q = partitionAt p st in let P = lies p h .placed in split (wholeAt v p e)
+      (λ t. split (ltb (fromOf q) (toOf q))
+        (λ l. rw (t, l) (lot-last es q P f a (SeenRows e) (forgets t) (whole p h t) (ltb-true (fromOf q) (toOf q) l)))
+        (λ l. rw (t, l) (lot-turned es q P f a)))
+      (λ t. rw t (lot-turned es q P f a))
+
+  -- the greatest clearing
+  top-is : (p : ℕ) (h : p < partitionsMax) → let q = partitionAt p st in
+      turned (topTurn (pageReach e)) noTop es (soughtFrom q v p e) (toOf q - soughtFrom q v p e)
+      ≡ topOf es (st .rows) q (lies p h) (pageReach e)
+  top-is p h = sought-turned p h (topTurn (pageReach e)) noTop (λ t d g m n. rw (m .rows))
+
+  -- there is none where all rows are shown
+  whole-shows : (p : ℕ) → p < partitionsMax → wholeAt v p e ≡ true → (n : ℕ) (d : Entry) → SeenRows e d
+      → shows (cut p) n (d .epoch) ≡ true
+  whole-shows p h t n d m = rw (top-is p h, top-still (pageReach e) noTop (entriesAt p st)
+      (All-imp _ _ (λ g k. rw (k .rows)) (entriesAt p st) (whole p h t))) (shows-all e 0 n (d .epoch) (m .some) (m
+          .seen))
 
   -- ---- the partitions below p: their runs are laid, and the places of the others are blank
 
@@ -110,8 +141,9 @@ module _ (st : Store) (ok : StoreOk st) (v : Verdict) (e : ℕ) where
     -- as the code lays them
     laid-lot : runs (suc p) ≡ foldl (laidTurn (cut p)) start (entriesAt p st) .words
     unfolding laidBelow
-    laid-lot = ap (λ x. x .words) (sought-turned p h (laidTurn (cut p))
-        (record { pending = firstOf p; words = runs p }))
+    laid-lot = let x : Laid = record { pending = firstOf p; words = runs p } in
+      ap (λ x. x .words) (sought-turned p h (laidTurn (cut p)) x (λ t d g m k. over-last (cut p) x d g
+        (λ n. whole-shows p h t n d m) (λ n. whole-shows p h t n g k)))
       ∙ ap (λ s. foldl (laidTurn (cut p)) (record { pending = s; words = runs p }) (entriesAt p st) .words) first-is
 
     lays-lot : Lays (runsMax * p) start (foldl (laidTurn (cut p)) start (entriesAt p st))
@@ -155,7 +187,7 @@ module _ (st : Store) (ok : StoreOk st) (v : Verdict) (e : ℕ) where
     same : (n j : ℕ) → shows (cut p) n j
         ≡ shows (cutOf (pageReach e) (topOf es (st .rows) q (lies p h) (pageReach e)) (rowsMax * q .area)) n j
     unfolding shows
-    same n j = rw (sought-turned p h (topTurn (pageReach e)) noTop)
+    same n j = rw (top-is p h)
 
     seen : All (λ (s : Span). 1 ≤ s .epoch) (spansAt p st)
     seen = All-imp _ _ (λ s t. epoch-facts (managerOf st) (s .epoch) t .low) (spansAt p st)
