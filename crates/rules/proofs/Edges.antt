@@ -16,7 +16,7 @@ use Rattle.rules.specs.Step.{advanceLse, purge, run}
 use Rattle.rules.specs.declared.Reader.{Reader}
 use Rattle.rules.specs.declared.Reader.the-variants.{Rw, Ro}
 use Rattle.rules.proofs.Look.{made, Look, linesOf, bytesTo, entriesIn}
-use Rattle.rules.proofs.Look.{totalsLeft, Case, observed, alike, agree, agree-eq}
+use Rattle.rules.proofs.Look.{totalsLeft, Case, observed, alike, agree, IsTrue, yes, passes, table-holds}
 
 -- a line that is only a number, a line of 0 and a value, and that of a commit or roll back: LCE, the oldest open epoch
 unfoldable pub only : ℕ → List ℕ
@@ -162,9 +162,12 @@ edges =
     ∷ case (made 1) (beginRo 0 ∷ endRo 1 ∷ []) (linesOf (beginRo 0 ∷ endRo 1 ∷ [])) (ok 2 ∷ only 2 ∷ [])
     ∷ []
 
-pub edges-hold : map observed edges ≡ map (λ c. c .expected) edges
+edges-pass : IsTrue (passes edges)
 unfolding agree alike observed edges gap weighed rowsSpoilt totalsSpoilt totals case look closed ok only lastEpoch
-edges-hold = agree-eq (map observed edges) (map (λ c. c .expected) edges) refl
+edges-pass = yes
+
+pub edges-hold : map observed edges ≡ map (λ c. c .expected) edges
+edges-hold = table-holds edges edges-pass
 
 -- ---- the order of the refusals: each neighbouring pair of each call, both of which hold
 
@@ -216,7 +219,10 @@ order =
         10 ∷ [])
     ∷ []
 
-pub order-holds : map observed order ≡ map (λ c. c .expected) order
+order-passes : IsTrue (passes order)
 unfolding agree alike observed order spoilt ticketless crowded crowd filled turns case ok only lastEpoch lastTicket
     laidInPlace laid wordsOf entriesOf
-order-holds = agree-eq (map observed order) (map (λ c. c .expected) order) refl
+order-passes = yes
+
+pub order-holds : map observed order ≡ map (λ c. c .expected) order
+order-holds = table-holds order order-passes

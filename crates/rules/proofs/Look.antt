@@ -136,3 +136,18 @@ agree = alike (alike (alike eqb))
 pub agree-eq : (xs ys : List (List (List ℕ))) → agree xs ys ≡ true → xs ≡ ys
 unfolding agree
 agree-eq = alike-eq (alike (alike eqb)) (alike-eq (alike eqb) (alike-eq eqb eqb-true))
+
+-- ---- a table's theorem: that its test passes is a lemma of its own, since as an argument the test is computed twice
+
+pub data IsTrue : Bool → Type 0 where
+  yes : IsTrue true
+
+-- each case is observed as expected
+abbrev pub passes : List Case → Bool
+passes cs = agree (map observed cs) (map (λ c. c .expected) cs)
+
+pub table-holds : (cs : List Case) → IsTrue (passes cs) → map observed cs ≡ map (λ c. c .expected) cs
+table-holds cs t = agree-eq (map observed cs) (map (λ c. c .expected) cs) (true-of t)
+  where
+    true-of : {b : Bool} → IsTrue b → b ≡ true
+    true-of yes = refl

@@ -14,7 +14,7 @@ use Rattle.rules.specs.Step.{Call, begin, append, clear, commit, beginRo
 use Rattle.rules.specs.Step.{run}
 use Rattle.rules.specs.declared.Reader.the-variants.{Ro}
 use Rattle.rules.proofs.Look.{made, linesOf, savedTo, entriesIn, totalsLeft, Case, observed, alike, agree}
-use Rattle.rules.proofs.Look.{agree-eq}
+use Rattle.rules.proofs.Look.{agree-eq, IsTrue, yes, passes, table-holds}
 use Rattle.rules.proofs.Edges.{only, ok, case, spoilt}
 
 -- ---- files
@@ -97,10 +97,13 @@ rounds =
     ∷ case busy [] (linesOf (save 2 [] ∷ save 1 [] ∷ [])) (only 4 ∷ only 3 ∷ [])
     ∷ []
 
-pub rounds-hold : map observed rounds ≡ map (λ c. c .expected) rounds
+rounds-pass : IsTrue (passes rounds)
 unfolding agree alike observed rounds contents rows round file busy saved shorter cut look case spoilt ok
     only lastEpoch bytesOf
-rounds-hold = agree-eq (map observed rounds) (map (λ c. c .expected) rounds) refl
+rounds-pass = yes
+
+pub rounds-hold : map observed rounds ≡ map (λ c. c .expected) rounds
+rounds-hold = table-holds rounds rounds-pass
 
 -- ---- every cut of the file, the longest first: the epoch and the rows of its last whole round
 
