@@ -1,5 +1,5 @@
 -- The header and the rows of a checkpoint (02: round), read from a lent file and written to a lent output. 02 (v). In
--- order: hasRoom, rowsRead, weightRead, headerPut, headOf, rowsPut, afterRows. Laws: proofs/Laws/Rows.antt.
+-- order: hasRoom, rowsRead, weightRead, headerPut, headOf, rowsPut, afterRows. Laws: proofs/Laws/Numbers.antt.
 -- Assumes nothing.
 use mathlib.Core.Bool.{Bool, _&&_, cond}
 use mathlib.Core.List.{List, _++_}
