@@ -1,7 +1,6 @@
 /* A day at the works, over include/nizgulk.h: two benches load, an order page (a read-only transaction) stays open,
- * scrap is cleared, a load is rolled back, and the page is shown the same rows all day; then it is saved, and room is
- * made. It prints what happens, and ends with status 1 where something is not as it is due. `tools/example-c` builds
- * and runs it. */
+ * scrap is cleared, a load is rolled back, and the page is shown the same rows all day; then room is made. It prints
+ * what happens, and ends with status 1 where something is not as it is due. `tools/example-c` builds and runs it. */
 #include "nizgulk.h"
 
 #include <stdio.h>
@@ -155,8 +154,6 @@ int main(void)
     static const uint64_t brass[] = {410, 395, 402}, more_brass[] = {388}, bronze[] = {120, 130};
     static const uint64_t scrap[] = {55, 60, 71}, new_scrap[] = {80}, mistyped[] = {99999, 99998};
     static const uint64_t all_brass[] = {410, 395, 402, 388};
-    static uint8_t file[NIZGULK_CHECKPOINT_MAX];
-    struct nizgulk_seen seen;
     struct shown orders[3], now;
     uint64_t first, second, third, fourth, order, evening, p;
 
@@ -220,15 +217,7 @@ int main(void)
     now = by_page(evening, SCRAP);
     due("a new page is shown the new scrap alone", are(&now, new_scrap, COUNT(new_scrap)));
 
-    printf("Evening: the day is saved, and room is made\n");
-    reply = nizgulk_advance_lse(reply.state, LENT, 0);
-    due("the safe epoch stays until it is confirmed that all is saved", accepted("LSE moves") == 0);
-    seen = nizgulk_save(reply.state, LENT, file, sizeof file, third);
-    due("a save is accepted", seen.number == NIZGULK_ACCEPTED);
-    printf("  the day is saved in %d bytes\n", (int)seen.value);
-    /* here the bytes would be written to a disk; then they are confirmed */
-    reply = nizgulk_confirm_flush(reply.state, LENT, third);
-    due("it is confirmed as saved", accepted("a confirmation") == third);
+    printf("Evening: room is made\n");
     reply = nizgulk_advance_lse(reply.state, LENT, third);
     due("the order page holds the safe epoch back", reply.number == NIZGULK_BLOCKED);
     printf("  the safe epoch cannot move to %d while page %d is open\n", (int)third, (int)order);

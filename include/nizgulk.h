@@ -83,27 +83,25 @@ enum nizgulk_number {
     NIZGULK_NOT_OPEN = 2,          /* the epoch or ticket is not that of an open transaction (01: load, page) */
     NIZGULK_SHORT_OUTPUT = 3,      /* the bitmap of a scan or the output of a save has fewer bytes than its rows need */
     NIZGULK_SHORT_BITMAP = NIZGULK_SHORT_OUTPUT, /* its name before a save could meet it */
-    NIZGULK_OUT_OF_RANGE = 4,      /* starting epoch, page epoch, LSE target or epoch to save or confirm out of range */
+    NIZGULK_OUT_OF_RANGE = 4,      /* starting epoch, page epoch, LSE target or the epoch to save out of its range */
     /* from the state */
     NIZGULK_UNSOUND = 5,      /* the store is not sound (01, and its totals), or a lent area has another length */
     NIZGULK_EXHAUSTED = 6,    /* begin: the last epoch is given out; begin_ro: the last ticket is */
     NIZGULK_TXNS_FULL = 7,    /* begin: 32 are open or waiting; begin_ro: 32 are open */
     NIZGULK_ROWS_FULL = 8,    /* more rows than the partition has left of 512 */
     NIZGULK_ENTRIES_FULL = 9, /* an entry is needed and the partition has 64 */
-    NIZGULK_BLOCKED = 10,     /* the move of LSE is held (01): by F (02), an open page, or the deps of an open load */
+    NIZGULK_BLOCKED = 10,     /* the move of LSE is held (01) by an open page, or by the deps of an open load */
     /* from a file */
     NIZGULK_CORRUPT = 11 /* a table of contents of the file is one that no save writes there */
 };
 
 /* ---- The books (01). A caller may read every field. It writes none. */
 
-/* The clock: the next epoch (EC), the latest committed epoch (LCE), the latest safe epoch (LSE), and the last epoch
- * confirmed as saved (02: F), from LSE to LCE. A store in which it lies elsewhere is not sound. */
+/* The clock: the next epoch (EC), the latest committed epoch (LCE), the latest safe epoch (LSE). */
 struct nizgulk_clock {
     uint64_t ec;
     uint64_t lce;
     uint64_t lse;
-    uint64_t flushed; /* 02: F */
 };
 
 /* The record of a read-write transaction (01: load). */
@@ -194,7 +192,7 @@ struct nizgulk_seen {
 
 /* ---- Making new, and read-write transactions (01: loads). */
 
-/* Making new (01) at the epoch `start`: EC is `start`, LCE, LSE and F are `start` - 1, nothing is open, all partitions
+/* Making new (01) at the epoch `start`: EC is `start`, LCE and LSE are `start` - 1, nothing is open, all partitions
  * are empty, all totals are 0, the next ticket is 1. It does not look at `state` (hand over zeros) nor into the areas,
  * and writes nothing lent.
  * Refusals, in this order: 5 (only for the lengths), 4 (`start` is not 1 to NIZGULK_LAST_EPOCH).
@@ -280,21 +278,12 @@ struct nizgulk_seen nizgulk_scan_ro(struct nizgulk_state state, const struct niz
 /* ---- Making room. */
 
 /* LSE moves to `target`, from LSE to LCE; 0 means as far as it is not held (01), and is never refused by 10. It is
- * held where the target is above F, the last epoch confirmed as saved (02), where an open page has an epoch below the
- * target, or where an open load has an epoch at or below it in its deps. So without nizgulk_confirm_flush it does not
- * move, and a purge does nothing. Writes nothing lent.
+ * held where an open page has an epoch below the target, or an open load has an epoch at or below it in its deps.
+ * Writes nothing lent.
  * Refusals, in this order: 5, 4 (`target` is neither 0 nor from LSE to LCE), 10.
  * Answers LSE in `value`. */
 struct nizgulk_reply nizgulk_advance_lse(struct nizgulk_state state, const struct nizgulk_entry *entries,
                                          size_t entries_len, const uint64_t *rows, size_t rows_len, uint64_t target);
-
-/* Confirms that all up to `epoch` is saved: F, the last epoch confirmed (02), becomes `epoch`, from the present F to
- * LCE. Here 0 is epoch 0. A save does not do this: it is for who has kept its bytes, in a file or otherwise, to say so.
- * Nothing that anyone is shown changes. Writes nothing lent.
- * Refusals, in this order: 5, 4 (`epoch` is not from the present F to LCE).
- * Answers F in `value`. */
-struct nizgulk_reply nizgulk_confirm_flush(struct nizgulk_state state, const struct nizgulk_entry *entries,
-                                           size_t entries_len, const uint64_t *rows, size_t rows_len, uint64_t epoch);
 
 /* Purges partition `p` at LSE: rows that clearings up to LSE hide go, and so do these clearings; the rows left of
  * epochs up to LSE get epoch LSE. Nobody is shown other rows than before, and the total stays. The partition is
@@ -324,11 +313,11 @@ struct nizgulk_reply nizgulk_purge(struct nizgulk_state state, struct nizgulk_en
 struct nizgulk_seen nizgulk_save(struct nizgulk_state state, const struct nizgulk_entry *entries, size_t entries_len,
                                  const uint64_t *rows, size_t rows_len, uint8_t *out, size_t out_len, uint64_t epoch);
 
-/* Recovery: the store becomes what the last whole checkpoint of `file` holds. With its epoch e: EC is e + 1, LCE,
- * LSE and F are e, nothing is open, the next ticket is 1, partition p lies in area p, and where it has rows it has one
- * entry, of epoch e; the totals are of these rows. Without a whole checkpoint the store is made new at 1. It does not
- * look at `state` (hand over zeros) nor into the areas, and writes the rows and the entries that it brings and no other
- * word. A history starts with it, as with nizgulk_create, in which the rows are those of a committed transaction e.
+/* Recovery: the store becomes what the last whole checkpoint of `file` holds. With its epoch e: EC is e + 1, LCE and
+ * LSE are e, nothing is open, the next ticket is 1, partition p lies in area p, and where it has rows it has one entry,
+ * of epoch e; the totals are of these rows. Without a whole checkpoint the store is made new at 1. It does not look at
+ * `state` (hand over zeros) nor into the areas, and writes the rows and the entries that it brings and no other word. A
+ * history starts with it, as with nizgulk_create, in which the rows are those of a committed transaction e.
  * Refusals, in this order: 5 (only for the lengths), 11 (a table of contents that is whole, even if its rows are cut,
  * has more than NIZGULK_ROWS_MAX rows of a partition, an epoch above NIZGULK_LAST_EPOCH or below that of the checkpoint
  * before, or epoch 0 and rows; nothing of such a file is taken).

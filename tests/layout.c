@@ -1,10 +1,9 @@
 /* The layout that include/nizgulk.h states. Asserted where this is compiled, as C99 or as C++: every size, place and
  * width, in bytes. Checked where it is run, against the library: a history that leaves another number in almost every
  * word of the books, compared word by word with books written here by the names of their fields; that the library reads
- * each of these words; every limit from both sides; every refusal; how far LSE goes by what is confirmed as saved; what
- * a load is shown that clears; the totals, and which bits of the rows they hold the store to; what a save writes, byte
- * by byte, and what a recovery makes of these bytes, cut after each of them. It ends with status 1 where something
- * differs. */
+ * each of these words; every limit from both sides; every refusal; what a load is shown that clears; the totals, and
+ * which bits of the rows they hold the store to; what a save writes, byte by byte, and what a recovery makes of these
+ * bytes, cut after each of them. It ends with status 1 where something differs. */
 #include "nizgulk.h"
 
 #include <stdio.h>
@@ -21,11 +20,10 @@
 #define FIELD(type, field, place, bytes)                                                                               \
     FACT(offsetof(struct type, field) == (place) && sizeof(((struct type *)0)->field) == (bytes))
 
-SIZE(nizgulk_clock, 32);
+SIZE(nizgulk_clock, 24);
 FIELD(nizgulk_clock, ec, 0, 8);
 FIELD(nizgulk_clock, lce, 8, 8);
 FIELD(nizgulk_clock, lse, 16, 8);
-FIELD(nizgulk_clock, flushed, 24, 8);
 
 SIZE(nizgulk_rw_txn, 24);
 FIELD(nizgulk_rw_txn, epoch, 0, 8);
@@ -54,26 +52,26 @@ SIZE(nizgulk_partitions, 200);
 FIELD(nizgulk_partitions, at, 0, 8 * 24);
 FIELD(nizgulk_partitions, spare, 192, 8);
 
-SIZE(nizgulk_state, 9536);
-FIELD(nizgulk_state, clock, 0, 32);
-FIELD(nizgulk_state, writers, 32, 776);
-FIELD(nizgulk_state, deps, 808, 32 * 31 * 8);
-FIELD(nizgulk_state, readers, 8744, 528);
-FIELD(nizgulk_state, partitions, 9272, 200);
-FIELD(nizgulk_state, totals, 9472, 8 * 8);
+SIZE(nizgulk_state, 9528);
+FIELD(nizgulk_state, clock, 0, 24);
+FIELD(nizgulk_state, writers, 24, 776);
+FIELD(nizgulk_state, deps, 800, 32 * 31 * 8);
+FIELD(nizgulk_state, readers, 8736, 528);
+FIELD(nizgulk_state, partitions, 9264, 200);
+FIELD(nizgulk_state, totals, 9464, 8 * 8);
 
 SIZE(nizgulk_entry, 24);
 FIELD(nizgulk_entry, epoch, 0, 8);
 FIELD(nizgulk_entry, end, 8, 8);
 FIELD(nizgulk_entry, mark, 16, 8);
 
-SIZE(nizgulk_reply, 9576);
-FIELD(nizgulk_reply, state, 0, 9536);
-FIELD(nizgulk_reply, number, 9536, 8);
-FIELD(nizgulk_reply, value, 9544, 8);
-FIELD(nizgulk_reply, second, 9552, 8);
-FIELD(nizgulk_reply, from, 9560, 8);
-FIELD(nizgulk_reply, count, 9568, 8);
+SIZE(nizgulk_reply, 9568);
+FIELD(nizgulk_reply, state, 0, 9528);
+FIELD(nizgulk_reply, number, 9528, 8);
+FIELD(nizgulk_reply, value, 9536, 8);
+FIELD(nizgulk_reply, second, 9544, 8);
+FIELD(nizgulk_reply, from, 9552, 8);
+FIELD(nizgulk_reply, count, 9560, 8);
 
 SIZE(nizgulk_seen, 24);
 FIELD(nizgulk_seen, number, 0, 8);
@@ -173,7 +171,7 @@ static void all_same(const char *what)
 }
 
 /* 32 loads from 1036 on, of which 1041 waits; 32 pages, tickets 4 to 35 at the epochs 1004 to 1035. Each total is of
- * what the loads up to 1003 have brought. What is confirmed as saved is the epochs up to 1034. */
+ * what the loads up to 1003 have brought. */
 static void history(void)
 {
     uint64_t i, t, p;
@@ -204,10 +202,6 @@ static void history(void)
         told("begin_ro", NIZGULK_ACCEPTED, t);
     }
     memcpy(want.totals, weight, sizeof weight);
-    reply = nizgulk_advance_lse(reply.state, LENT, 0);
-    told("advance_lse with nothing confirmed", NIZGULK_ACCEPTED, 1000);
-    reply = nizgulk_confirm_flush(reply.state, LENT, 1034);
-    told("confirm_flush", NIZGULK_ACCEPTED, 1034);
     reply = nizgulk_advance_lse(reply.state, LENT, 0);
     told("advance_lse", NIZGULK_ACCEPTED, 1004);
 
@@ -248,7 +242,6 @@ static void history(void)
     want.clock.ec = 1068;
     want.clock.lce = 1035;
     want.clock.lse = 1004;
-    want.clock.flushed = 1034;
     want.writers.count = NIZGULK_WRITERS_MAX;
     for (i = 0; i < NIZGULK_READERS_MAX; i++) {
         want.readers.at[i].ticket = 4 + i;
@@ -312,16 +305,6 @@ static void limits(void)
     told("a waiting load", NIZGULK_NOT_OPEN, 0);
     reply = nizgulk_advance_lse(reply.state, LENT, 1005);
     told("LSE above a page", NIZGULK_BLOCKED, 0);
-    reply = nizgulk_advance_lse(reply.state, LENT, 1036);
-    told("LSE above LCE", NIZGULK_OUT_OF_RANGE, 0);
-    reply = nizgulk_confirm_flush(reply.state, LENT, 1036);
-    told("a confirmation above LCE", NIZGULK_OUT_OF_RANGE, 0);
-    reply = nizgulk_confirm_flush(reply.state, LENT, 1033);
-    told("a confirmation below F", NIZGULK_OUT_OF_RANGE, 0);
-    reply = nizgulk_confirm_flush(reply.state, LENT, 0);
-    told("a confirmation of epoch 0", NIZGULK_OUT_OF_RANGE, 0);
-    reply = nizgulk_confirm_flush(reply.state, LENT, 1034);
-    told("a confirmation of F again", NIZGULK_ACCEPTED, 1034);
     reply = nizgulk_purge(reply.state, LENT, NIZGULK_PARTITIONS_MAX);
     told("partition 8", NIZGULK_UNKNOWN_PARTITION, 0);
     reply = nizgulk_append(reply.state, LENT, batch, NIZGULK_ROWS_MAX - 1, 1036, 0);
@@ -385,60 +368,6 @@ static void closes(void)
     told_both("a commit with a later load open", NIZGULK_ACCEPTED, 2003, 2004);
     reply = nizgulk_roll_back(reply.state, LENT, 2004);
     told_both("a roll back of the last load", NIZGULK_ACCEPTED, 2003, 0);
-}
-
-/* The number that a begin answers for these words of the clock. */
-static void clock_is(const char *what, uint64_t lce, uint64_t lse, uint64_t flushed, uint64_t number)
-{
-    struct nizgulk_state spoilt = reply.state;
-    spoilt.clock.lce = lce;
-    spoilt.clock.lse = lse;
-    spoilt.clock.flushed = flushed;
-    is(what, nizgulk_begin(spoilt, LENT).number, number);
-}
-
-/* LSE goes as far as F, which no save and no commit moves, and which lies between LSE and LCE. */
-static void flushes(void)
-{
-    uint8_t out[NIZGULK_CHECKPOINT_BYTES(0)];
-    uint64_t txn;
-    reply = nizgulk_create(reply.state, LENT, 2501);
-    told("making new", NIZGULK_ACCEPTED, 0);
-    is("F of a store made new", reply.state.clock.flushed, 2500);
-    for (txn = 2501; txn <= 2503; txn++) {
-        reply = nizgulk_begin(reply.state, LENT);
-        told("begin", NIZGULK_ACCEPTED, txn);
-        reply = nizgulk_commit(reply.state, LENT, txn);
-        told("commit", NIZGULK_ACCEPTED, txn);
-    }
-    is("a save", nizgulk_save(reply.state, LENT, out, sizeof out, 2503).number, NIZGULK_ACCEPTED);
-    is("F after commits and a save", reply.state.clock.flushed, 2500);
-    reply = nizgulk_advance_lse(reply.state, LENT, 2501);
-    told("LSE one above F", NIZGULK_BLOCKED, 0);
-    reply = nizgulk_advance_lse(reply.state, LENT, 2504);
-    told("LSE above F and LCE", NIZGULK_OUT_OF_RANGE, 0);
-    reply = nizgulk_advance_lse(reply.state, LENT, 2500);
-    told("LSE at F", NIZGULK_ACCEPTED, 2500);
-    reply = nizgulk_confirm_flush(reply.state, LENT, 2502);
-    told("confirm_flush", NIZGULK_ACCEPTED, 2502);
-    reply = nizgulk_advance_lse(reply.state, LENT, 2503);
-    told("LSE one above F", NIZGULK_BLOCKED, 0);
-    reply = nizgulk_advance_lse(reply.state, LENT, 2501);
-    told("LSE below F", NIZGULK_ACCEPTED, 2501);
-    reply = nizgulk_advance_lse(reply.state, LENT, 0);
-    told("LSE as far as F", NIZGULK_ACCEPTED, 2502);
-    is("F then", reply.state.clock.flushed, 2502);
-    reply = nizgulk_confirm_flush(reply.state, LENT, 2501);
-    told("a confirmation below F", NIZGULK_OUT_OF_RANGE, 0);
-    reply = nizgulk_confirm_flush(reply.state, LENT, 2503);
-    told("a confirmation of LCE", NIZGULK_ACCEPTED, 2503);
-    clock_is("F at LSE", 2503, 2502, 2502, NIZGULK_ACCEPTED);
-    clock_is("F at LCE", 2503, 2502, 2503, NIZGULK_ACCEPTED);
-    clock_is("F below LSE", 2503, 2502, 2501, NIZGULK_UNSOUND);
-    clock_is("F of 0", 2503, 2502, 0, NIZGULK_UNSOUND);
-    clock_is("F above LCE", 2503, 2502, 2504, NIZGULK_UNSOUND);
-    clock_is("LSE above F", 2503, 2503, 2502, NIZGULK_UNSOUND);
-    clock_is("LCE below F", 2502, 2502, 2503, NIZGULK_UNSOUND);
 }
 
 /* What load `txn` is shown of the five rows of partition 3. */
@@ -544,8 +473,6 @@ static void totals(void)
     reply = nizgulk_commit(reply.state, LENT, 4003);
     told("commit", NIZGULK_ACCEPTED, 4003);
     weighs("a total after a clearing", 5, NIZGULK_ACCEPTED);
-    reply = nizgulk_confirm_flush(reply.state, LENT, 4003);
-    told("confirm_flush", NIZGULK_ACCEPTED, 4003);
     reply = nizgulk_advance_lse(reply.state, LENT, 0);
     told("advance_lse", NIZGULK_ACCEPTED, 4003);
     reply = nizgulk_purge(reply.state, LENT, 5);
@@ -607,7 +534,6 @@ static void recovered_to(int round)
     want.partitions.spare = 8;
     want.readers.next = 1;
     want.clock.lce = want.clock.lse = round == 0 ? 0 : 6000 + (uint64_t)round;
-    want.clock.flushed = want.clock.lse;
     want.clock.ec = want.clock.lce + 1;
     if (round == 0) {
         return;
@@ -754,7 +680,6 @@ int main(void)
     scans();
     limits();
     closes();
-    flushes();
     reload();
     totals();
     checkpoints();

@@ -40,8 +40,6 @@ pub struct Books {
     next_epoch: u64,
     lce: u64,
     pub lse: u64,
-    /// F, the last epoch confirmed as saved (02, (vi)).
-    confirmed: u64,
     /// Open or waiting, epochs rising.
     loads: Vec<Load>,
     /// Ticket and epoch.
@@ -51,7 +49,7 @@ pub struct Books {
 
 impl Default for Books {
     fn default() -> Books {
-        Books { next_epoch: 1, lce: 0, lse: 0, confirmed: 0, loads: Vec::new(), pages: Vec::new(), next_ticket: 1 }
+        Books { next_epoch: 1, lce: 0, lse: 0, loads: Vec::new(), pages: Vec::new(), next_ticket: 1 }
     }
 }
 
@@ -106,21 +104,16 @@ impl Books {
         self.pages.retain(|page| page.0 != ticket);
     }
 
-    /// What outlives the loads and pages that are open: EC, LCE, LSE, and the epochs that are committed above LCE. F
-    /// would start at LSE.
+    /// What outlives the loads and pages that are open: EC, LCE, LSE, and the epochs that are committed above LCE.
     pub fn landed(&self) -> Vec<u64> {
         let waiting = self.loads.iter().filter(|load| load.waiting).map(|load| load.epoch);
         [self.next_epoch, self.lce, self.lse].into_iter().chain(waiting).collect()
     }
 
-    pub fn confirm(&mut self, epoch: u64) {
-        self.confirmed = epoch;
-    }
-
     pub fn move_lse(&mut self) {
         let pages = self.pages.iter().map(|page| page.1);
         let deps = self.loads.iter().filter_map(|load| load.deps.first()).map(|dep| dep - 1);
-        self.lse = pages.chain(deps).fold(self.confirmed, u64::min);
+        self.lse = pages.chain(deps).fold(self.lce, u64::min);
     }
 
     pub fn view(&self, reader: Reader) -> View<'_> {

@@ -158,10 +158,6 @@ impl<L: Lots> Engine for Database<L> {
         self.lots.scan_plain(lot, sum);
     }
 
-    fn confirm(&mut self, epoch: u64) {
-        self.books.confirm(epoch);
-    }
-
     fn move_lse(&mut self) {
         self.books.move_lse();
     }

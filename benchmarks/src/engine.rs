@@ -86,8 +86,6 @@ pub trait Engine {
     /// Hands all rows that the lot holds to the sum, in order, whoever wrote them: no snapshot.
     fn scan_plain(&mut self, lot: usize, sum: &mut Sum);
 
-    /// Confirms that all up to the epoch is saved.
-    fn confirm(&mut self, epoch: u64);
     /// Moves LSE as far as nothing holds it.
     fn move_lse(&mut self);
     fn purge(&mut self, lot: usize);
@@ -109,7 +107,6 @@ pub trait Engine {
                     self.scan(*reader, *partition as usize, &mut sum);
                     sum.end();
                 }
-                Call::Confirm { epoch } => self.confirm(*epoch),
                 Call::MoveLse { .. } => self.move_lse(),
                 Call::Purge { partition } => self.purge(*partition as usize),
                 Call::Save { .. } | Call::Recover { .. } => unreachable!("no workload saves or recovers"),

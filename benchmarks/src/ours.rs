@@ -66,10 +66,6 @@ impl Engine for Ours {
         sum.rows(&self.store.rows()[from..from + partition.rows]);
     }
 
-    fn confirm(&mut self, epoch: u64) {
-        self.store.confirm_flush(Epoch::new(epoch)).expect("accepted");
-    }
-
     fn move_lse(&mut self) {
         self.store.advance_lse(None).expect("accepted");
     }

@@ -66,10 +66,6 @@ impl Engine for Model {
         sum.rows(rows_of(&self.store.manager.partitions.at[lot], &self.store.rows));
     }
 
-    fn confirm(&mut self, epoch: u64) {
-        self.store.confirm(epoch).expect("accepted");
-    }
-
     fn move_lse(&mut self) {
         self.store.move_lse(0).expect("accepted");
     }

@@ -83,14 +83,8 @@ impl Day {
         self.call(Call::Scan { reader, partition, lent: AREA_ROWS / 8 });
     }
 
-    /// Confirms that all that is committed is saved, and moves LSE as far as it then may go.
-    fn move_lse(&mut self) {
-        self.call(Call::Confirm { epoch: self.store.manager.clock.lce });
-        self.call(Call::MoveLse { target: 0 });
-    }
-
     fn purge_all(&mut self) {
-        self.move_lse();
+        self.call(Call::MoveLse { target: 0 });
         (0..LOTS).for_each(|partition| self.call(Call::Purge { partition }));
     }
 
@@ -125,8 +119,7 @@ const MIXED_LOADS: u64 = 400;
 /// Up to four loads and four pages are open at once. A load appends one to four batches of 4 to 12 rows to lots at
 /// random; one in ten is rolled back, one in sixteen clears a lot. Before one in eight of its calls it scans a lot
 /// itself. A page scans four lots; one in four is opened at some epoch from LSE to LCE, the others at LCE. After every
-/// sixteenth load what is committed is confirmed as saved, LSE moves and all lots are purged. A lot that is three
-/// quarters full is cleared.
+/// sixteenth load LSE moves and all lots are purged. A lot that is three quarters full is cleared.
 fn mixed() -> Workload {
     let mut day = Day::new(1);
     let mut left: Vec<(u64, u64)> = Vec::new();
@@ -202,8 +195,8 @@ fn page_step(day: &mut Day, to_scan: &mut Vec<(u64, u64)>) {
 }
 
 /// A page is opened on lots of 64 rows and stays open while 440 loads append 8 rows each, to the lots in turn; it scans
-/// the lot after each. LSE cannot pass it, so that every lot ends with 56 entries. Then it is closed, what is
-/// committed is confirmed as saved, and the lots are purged.
+/// the lot after each. LSE cannot pass it, so that every lot ends with 56 entries. Then it is closed and the lots are
+/// purged.
 fn long_page() -> Workload {
     let mut day = Day::new(2);
     let first = day.begin();
@@ -223,7 +216,7 @@ fn long_page() -> Workload {
 }
 
 /// A load clears a lot of 256 rows and appends 256 others in batches of 64; a page is opened, scans it and is closed;
-/// what is committed is confirmed as saved, LSE moves and the lot is purged. Every lot eight times.
+/// LSE moves and the lot is purged. Every lot eight times.
 fn reload() -> Workload {
     let mut day = Day::new(3);
     let fill = |day: &mut Day, epoch: u64, lot: u64| (0..4).for_each(|_| day.append(epoch, lot, 64));
@@ -239,7 +232,7 @@ fn reload() -> Workload {
         let ticket = day.open(0);
         day.scan(Reader::Ro(ticket), lot);
         day.close(ticket);
-        day.move_lse();
+        day.call(Call::MoveLse { target: 0 });
         day.call(Call::Purge { partition: lot });
     }
     Workload { name: "clear and reload", short: "reload", before, calls: day.calls, scans: false }

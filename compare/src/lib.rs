@@ -14,7 +14,7 @@ use model::refusal::Refusal;
 use model::round::CONTENTS;
 use model::store::{Manager, Store};
 use model::stores::{changed_store, spoilt_store, CHANGES, LOW_BITS, SPOILS};
-use model::txn::{blocked_by_readers, RoTable, RoTxn, RwTable, RwTxn};
+use model::txn::{RoTable, RoTxn, RwTable, RwTxn};
 use model::visible::Reader;
 use model::{DEPS, TXNS};
 use nizgulk::books::{self, Books};
@@ -37,7 +37,7 @@ pub fn books_of(manager: &Manager) -> Books {
         entries: lot.entries as usize,
     };
     Books {
-        clock: books::Clock { ec: clock.ec, lce: clock.lce, lse: clock.lse, flushed: clock.confirmed },
+        clock: books::Clock { ec: clock.ec, lce: clock.lce, lse: clock.lse },
         writers: books::RwTxns { at: rw.at.map(load), count: rw.count as usize },
         deps,
         readers: books::RoTxns { at: ro.at.map(page), count: ro.count as usize, next: ro.next },
@@ -58,7 +58,7 @@ pub fn manager_of(books: &Books) -> Manager {
     let lot =
         |lot: books::Partition| Partition { area: lot.area as u64, rows: lot.rows as u64, entries: lot.entries as u64 };
     Manager {
-        clock: Clock { ec: clock.ec, lce: clock.lce, lse: clock.lse, confirmed: clock.flushed },
+        clock: Clock { ec: clock.ec, lce: clock.lce, lse: clock.lse },
         rw,
         ro: RoTable { at: readers.at.map(page), count: readers.count as u64, next: readers.next },
         partitions: Partitions { at: partitions.at.map(lot), spare: partitions.spare as u64 },
@@ -136,7 +136,6 @@ pub fn call(call: &Call, books: &Books, lent: Lent) -> Reply {
         Call::Open { epoch } => calls::begin_ro(books, entries, rows, *epoch),
         Call::Close { ticket } => calls::end_ro(books, entries, rows, *ticket),
         Call::MoveLse { target } => calls::advance_lse(books, entries, rows, *target),
-        Call::Confirm { epoch } => calls::confirm_flush(books, entries, rows, *epoch),
         Call::Purge { partition } => calls::purge(books, entries, rows, *partition),
         Call::Scan { reader, partition, .. } => {
             unchanged(scan(*reader, *partition, books, Lent { rows, entries, bytes }), books)
@@ -268,48 +267,6 @@ impl fmt::Display for Rounds {
     fn fmt(&self, f: &mut fmt::Formatter) -> fmt::Result {
         let Rounds { saved, recovered, many, cut } = self;
         write!(f, "rounds: {saved} saves with rows, {recovered} recovered, {many} of many rounds, {cut} of a cut file")
-    }
-}
-
-/// How many confirmations raised F, and how many were refused by 4; how many moves of LSE moved it, and how many were
-/// held where no reader held them, so by F alone; how many purges rewrote their lot.
-#[derive(Default)]
-pub struct Confirmed {
-    pub raised: u64,
-    pub refused: u64,
-    pub moved: u64,
-    pub held: u64,
-    pub rewritten: u64,
-}
-
-impl Confirmed {
-    /// Notes a call, by its number and its value and by the model's books before it and after it.
-    pub fn note(&mut self, one: &Call, (number, value): (u64, u64), before: &Manager, after: &Manager) {
-        match one {
-            Call::Confirm { .. } => {
-                self.raised += u64::from(before.clock.confirmed < after.clock.confirmed);
-                self.refused += u64::from(number == 4);
-            }
-            Call::MoveLse { target } => {
-                self.moved += u64::from(before.clock.lse < after.clock.lse);
-                self.held += u64::from(number == 10 && !blocked_by_readers(&before.rw, &before.ro, *target));
-            }
-            Call::Purge { .. } => self.rewritten += value,
-            _ => {}
-        }
-    }
-
-    /// Whether something of it was not met.
-    pub fn is_weak(&self) -> bool {
-        [self.raised, self.refused, self.moved, self.held, self.rewritten].contains(&0)
-    }
-}
-
-impl fmt::Display for Confirmed {
-    fn fmt(&self, f: &mut fmt::Formatter) -> fmt::Result {
-        let Confirmed { raised, refused, moved, held, rewritten } = self;
-        write!(f, "F: {raised} raised, {refused} refused by 4, {held} moves held by it alone; ")?;
-        write!(f, "LSE: {moved} moved; {rewritten} purges that rewrote")
     }
 }
 

@@ -1,7 +1,7 @@
 // The functions of the static library by their names behind `nizgulk_`, for build.rs and for the measuring programs.
 
 /// In the order of `kind`.
-pub const NAMES: [&str; 15] = [
+pub const NAMES: [&str; 14] = [
     "create",
     "begin",
     "append",
@@ -13,7 +13,6 @@ pub const NAMES: [&str; 15] = [
     "scan_rw",
     "scan_ro",
     "advance_lse",
-    "confirm_flush",
     "purge",
     "save",
     "recover",

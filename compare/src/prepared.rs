@@ -37,10 +37,9 @@ pub fn kind(one: &Call) -> usize {
         Call::Scan { reader: Reader::Rw(_), .. } => 8,
         Call::Scan { reader: Reader::Ro(_), .. } => 9,
         Call::MoveLse { .. } => 10,
-        Call::Confirm { .. } => 11,
-        Call::Purge { .. } => 12,
-        Call::Save { .. } => 13,
-        Call::Recover { .. } => 14,
+        Call::Purge { .. } => 11,
+        Call::Save { .. } => 12,
+        Call::Recover { .. } => 13,
     }
 }
 
@@ -83,7 +82,6 @@ pub fn each_call(store: &Store) -> [Call; KINDS] {
         scan(Reader::Rw(LOAD)),
         scan(Reader::Ro(PAGE)),
         Call::MoveLse { target: 0 },
-        Call::Confirm { epoch: LOAD - 1 },
         Call::Purge { partition: 0 },
         save(LOAD - 1),
         recover(store, LOAD - 1),
@@ -99,7 +97,7 @@ pub fn empty() -> Store {
 }
 
 /// Eight lots of `count` entries of `rows` rows each, by the loads 1, 2 and 5 in turn; 31 open loads and 31 pages, so
-/// that one more of each begins; LSE is 2 and F is 3. In lot 0 is room for an entry and eight rows.
+/// that one more of each begins; LSE is 2. In lot 0 is room for an entry and eight rows.
 pub fn laden(count: u64, rows: usize) -> Store {
     let mut store = Store::new(1);
     for _ in 0..LOAD {
@@ -125,8 +123,6 @@ pub fn laden(count: u64, rows: usize) -> Store {
     for _ in 0..30 {
         run(&mut store, Call::Begin);
     }
-    // The pages hold LSE at 2, and a confirmation of LCE raises F.
-    run(&mut store, Call::Confirm { epoch: 3 });
     // LSE is held while a load has an epoch at or below it in its deps: load 5 began before 1 to 4 were closed.
     store.manager.clock.lse = 2;
     for load in &mut store.manager.rw.at {
@@ -193,7 +189,6 @@ pub fn dense(rng: &mut Rng, heaviest: bool) -> Store {
     let epochs = rising(rng, loads, lce + 1, lce + loads as u64 + apart);
     manager.clock.lse = lse;
     manager.clock.lce = lce;
-    manager.clock.confirmed = choose(rng, heaviest, &[lse, lse + (lce - lse) / 2, lce]);
     manager.clock.ec = epochs[loads - 1] + 1 + rng.below(2);
     let wait = choose(rng, heaviest, &[200, 0, 0]);
     for (i, &epoch) in epochs.iter().enumerate() {
@@ -294,7 +289,6 @@ pub fn any_calls(store: &Store, rng: &mut Rng) -> Vec<Call> {
         Call::Scan { reader: Reader::Ro(page), partition: s, lent },
         Call::MoveLse { target: 0 },
         Call::MoveLse { target: manager.clock.lce },
-        Call::Confirm { epoch: manager.clock.lce },
         Call::Purge { partition: t },
         Call::Purge { partition: oldest },
         save(manager.clock.lse),

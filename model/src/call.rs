@@ -1,9 +1,7 @@
-//! Calls and answers as values, so that histories can be kept, made at random and run (01, "A session"; 02, (v),
-//! (vi)).
+//! Calls and answers as values, so that histories can be kept, made at random and run (01, "A session"; 02, (v)).
 
 use crate::refusal::Refusal;
 use crate::store::{Closed, Purged, Scanned, Store};
-use crate::variant::{wrong, Variant};
 use crate::visible::Reader;
 
 #[derive(Clone, Debug, PartialEq, Eq)]
@@ -53,9 +51,6 @@ pub enum Call {
     Recover {
         file: Vec<u8>,
     },
-    Confirm {
-        epoch: u64,
-    },
 }
 
 /// What a call answers beside its number.
@@ -69,9 +64,9 @@ pub enum Answer {
 }
 
 /// The names of the calls, in the order of `Call`.
-pub const CALL_NAMES: [&str; 14] = [
+pub const CALL_NAMES: [&str; 13] = [
     "new", "begin", "append", "clear", "commit", "rollback", "open", "close", "move lse", "purge", "scan",
-    "save", "recover", "confirm",
+    "save", "recover",
 ];
 
 /// The byte that the checks put into all that a call is lent to write bytes into.
@@ -94,7 +89,6 @@ impl Call {
             Call::Scan { .. } => 10,
             Call::Save { .. } => 11,
             Call::Recover { .. } => 12,
-            Call::Confirm { .. } => 13,
         }
     }
 
@@ -116,16 +110,8 @@ impl Call {
             Call::Scan { reader, partition, .. } => {
                 store.scan(*reader, *partition, lent).map(Answer::Scanned)
             }
-            Call::Save { epoch, .. } => {
-                let saved = store.save(*epoch, lent).map(Answer::Value);
-                if wrong(Variant::SaveConfirms) && saved.is_ok() {
-                    let clock = &mut store.manager.clock;
-                    clock.confirmed = clock.confirmed.max(*epoch);
-                }
-                saved
-            }
+            Call::Save { epoch, .. } => store.save(*epoch, lent).map(Answer::Value),
             Call::Recover { file } => store.recover(file).map(|()| Answer::Nothing),
-            Call::Confirm { epoch } => store.confirm(*epoch).map(Answer::Value),
         }
     }
 

@@ -1,9 +1,7 @@
-//! The fixed cases as functions, told in words where they fail (01, "A session" and on; 02, (i) to (iii), (v),
-//! (vi)).
+//! The fixed cases as functions, told in words where they fail (01, "A session" and on; 02, (i) to (iii), (v)).
 
 use crate::call::{Answer, Call};
 use crate::check::{Checked, Checks, Outcome};
-use crate::confirm_cases as confirmed;
 use crate::ledger::Ledger;
 use crate::partition::{entries_of, Entry, CLEARING, ROWS};
 use crate::round_cases as rounds;
@@ -16,7 +14,7 @@ pub type Told = Result<(), String>;
 pub type Case = (&'static str, fn() -> Told);
 
 /// All fixed cases by name.
-pub const CASES: [Case; 53] = [
+pub const CASES: [Case; 46] = [
     ("worked session", worked_session),
     ("cases 1 to 4", cases_1_to_4),
     ("cases 5 to 8", cases_5_to_8),
@@ -63,21 +61,14 @@ pub const CASES: [Case; 53] = [
     ("recovered: a new history", rounds::recovered_history),
     ("recovered: lengths", rounds::recovered_lengths),
     ("saved and recovered", rounds::saved_and_recovered),
-    ("confirmed: from F to LCE", confirmed::in_range),
-    ("confirmed: beside loads", confirmed::beside_loads),
-    ("confirmed: what is above is held", confirmed::above_is_held),
-    ("confirmed: as far as nothing holds", confirmed::as_far_as_free),
-    ("confirmed: not by a save", confirmed::not_by_a_save),
-    ("confirmed: at the start", confirmed::at_the_start),
-    ("confirmed: spoilt", confirmed::spoilt),
 ];
 
 /// Runs session lines, parted by `;`, with every check, and compares the answers.
-pub fn lines(input: &str, output: &str) -> Told {
+fn lines(input: &str, output: &str) -> Told {
     lines_from(Store::new(1), 1, input, output).map(|_| ())
 }
 
-pub fn lines_from(store: Store, start: u64, input: &str, output: &str) -> Result<Store, String> {
+fn lines_from(store: Store, start: u64, input: &str, output: &str) -> Result<Store, String> {
     let mut session = Session { store: store.clone() };
     let mut checked = Checked::new(store, Ledger::new(start), Checks::ALL);
     let inputs: Vec<&str> = input.split(';').map(str::trim).collect();
@@ -110,13 +101,12 @@ pub fn same<T: PartialEq + std::fmt::Debug>(what: &str, found: T, expected: T) -
 }
 
 fn worked_session() -> Told {
-    let input = "B; A 1 0 10 11; B; A 2 0 20; C 1; R 0; D 2 0; S l2 0; C 2; S p1 0; R 0; S p2 0; L 2; E 1";
-    let output =
+    lines(
+        "B; A 1 0 10 11; B; A 2 0 20; C 1; R 0; D 2 0; S l2 0; C 2; S p1 0; R 0; S p2 0; L 2; E 1; \
+         L 0; P 0; A 2 0 5",
         "B 0 1; A 0 2; B 0 2; A 0 3; C 0 1 2; R 0 1; D 0 3; S 0; C 0 2 0; S 0 10 11; R 0 2; S 0; L 10; \
-                  E 0 1";
-    lines(&format!("{input}; L 0; P 0; A 2 0 5"), &format!("{output}; L 0 0; P 0 0; A 2"))?;
-    // With all of it confirmed as saved, the same lines move LSE, and the purge has work.
-    lines(&format!("{input}; F 2; L 0; P 0; A 2 0 5"), &format!("{output}; F 0 2; L 0 2; P 0 1; A 2"))
+         E 0 1; L 0 2; P 0 1; A 2",
+    )
 }
 
 /// A store with loads 1 to 8 begun, lot 0 filled by `work`, a list of (load, rows), 0 rows being a clearing,
@@ -178,23 +168,17 @@ fn entries_of_lot(store: &Store, p: usize) -> Vec<(u64, u64, u64)> {
     entries.iter().map(|entry| (entry.epoch, entry.end, entry.mark)).collect()
 }
 
-/// Confirms all up to the target as saved, and moves LSE to it.
-fn moves_lse(checked: &mut Checked, target: u64) -> Told {
-    same("F", checked.call(&Call::Confirm { epoch: target })?.answer, Ok(Answer::Value(target)))?;
-    same("LSE", checked.call(&Call::MoveLse { target })?.answer, Ok(Answer::Value(target)))
-}
-
 fn cases_9_and_10() -> Told {
     let mut checked = table_store(&TABLE_A)?;
-    moves_lse(&mut checked, 3)?;
+    checked.call(&Call::MoveLse { target: 3 })?;
     checked.call(&Call::Purge { partition: 0 })?;
     let at_3 = vec![(3, 5, ROWS), (5, 5, CLEARING), (3, 8, ROWS), (7, 9, ROWS)];
     same("purged at 3", entries_of_lot(&checked.store, 0), at_3)?;
-    moves_lse(&mut checked, 5)?;
+    checked.call(&Call::MoveLse { target: 5 })?;
     checked.call(&Call::Purge { partition: 0 })?;
     same("purged at 3 and 5", entries_of_lot(&checked.store, 0), vec![(7, 1, ROWS)])?;
     let mut checked = table_store(&TABLE_A)?;
-    moves_lse(&mut checked, 5)?;
+    checked.call(&Call::MoveLse { target: 5 })?;
     checked.call(&Call::Purge { partition: 0 })?;
     same("purged at 5", entries_of_lot(&checked.store, 0), vec![(7, 1, ROWS)])?;
     same("row of 7", checked.store.rows[8 * 512], 108)
@@ -205,7 +189,7 @@ fn case_11() -> Told {
 }
 
 fn case_12() -> Told {
-    lines("B; B; C 1; F 1; L 1; L 0; C 2; L 1", "B 0 1; B 0 2; C 0 1 2; F 0 1; L 10; L 0 0; C 0 2 0; L 0 1")
+    lines("B; B; C 1; L 1; L 0; C 2; L 1", "B 0 1; B 0 2; C 0 1 2; L 10; L 0 0; C 0 2 0; L 0 1")
 }
 
 fn batch(count: u64) -> String {
@@ -294,11 +278,8 @@ fn edge_names_end() -> Told {
     lines_from(
         Store::new(last),
         last,
-        "B; B; R 0; C 2147483647; R 0; F 2147483648; F 2147483647; L 0; E 1; L 0",
-        &format!(
-            "B 0 {last}; B 6; R 0 1; C 0 {last} 0; R 0 2; F 4; F 0 {last}; L 0 {}; E 0 1; L 0 {last}",
-            last - 1
-        ),
+        "B; B; R 0; C 2147483647; R 0; L 0",
+        &format!("B 0 {last}; B 6; R 0 1; C 0 {last} 0; R 0 2; L 0 {}", last - 1),
     )?;
     let mut store = Store::new(1);
     store.manager.ro.next = TICKET_END - 1;
@@ -313,9 +294,9 @@ fn edge_names_end() -> Told {
 
 fn wrong_lse() -> Told {
     lines(
-        "B; A 1 0 10; B; A 2 0 20; C 2; B; C 1; F 2; L 2; L 1; L 0; P 0; S l3 0; C 3; F 3; L 0; P 0",
-        "B 0 1; A 0 1; B 0 2; A 0 2; C 0 0 1; B 0 3; C 0 2 3; F 0 2; L 10; L 10; L 0 0; P 0 0; S 0 20; C 0 3 0; \
-         F 0 3; L 0 3; P 0 1",
+        "B; A 1 0 10; B; A 2 0 20; C 2; B; C 1; L 2; L 1; L 0; P 0; S l3 0; C 3; L 0; P 0",
+        "B 0 1; A 0 1; B 0 2; A 0 2; C 0 0 1; B 0 3; C 0 2 3; L 10; L 10; L 0 0; P 0 0; S 0 20; C 0 3 0; \
+         L 0 3; P 0 1",
     )
 }
 
@@ -416,8 +397,8 @@ fn own_clearing_earlier_row() -> Told {
 
 fn rollback_moves_lce() -> Told {
     lines(
-        "B; B; B; C 2; C 3; F 3; X 1; R 0; R 2; F 3; L 0; X 1; C 3",
-        "B 0 1; B 0 2; B 0 3; C 0 0 1; C 0 0 1; F 4; X 0 3 0; R 0 1; R 0 2; F 0 3; L 0 2; X 2; C 2",
+        "B; B; B; C 2; C 3; X 1; R 0; R 2; L 0; X 1; C 3",
+        "B 0 1; B 0 2; B 0 3; C 0 0 1; C 0 0 1; X 0 3 0; R 0 1; R 0 2; L 0 2; X 2; C 2",
     )
 }
 
@@ -443,10 +424,10 @@ fn tickets() -> Told {
 fn purge() -> Told {
     // Skipped at first, then rewritten and joined, then emptied; each rewriting takes the spare area.
     let input =
-        "P 0; B; A 1 0 1; C 1; P 0; B; A 2 0 2; C 2; F 2; L 1; P 0; L 2; P 0; P 0; B; D 3 0; C 3; F 3; L 0; P 0; P 8";
+        "P 0; B; A 1 0 1; C 1; P 0; B; A 2 0 2; C 2; L 1; P 0; L 2; P 0; P 0; B; D 3 0; C 3; L 0; P 0; P 8";
     let output =
-        "P 0 0; B 0 1; A 0 1; C 0 1 0; P 0 0; B 0 2; A 0 2; C 0 2 0; F 0 2; L 0 1; P 0 0; L 0 2; P 0 1; P 0 0; \
-                  B 0 3; D 0 2; C 0 3 0; F 0 3; L 0 3; P 0 1; P 1";
+        "P 0 0; B 0 1; A 0 1; C 0 1 0; P 0 0; B 0 2; A 0 2; C 0 2 0; L 0 1; P 0 0; L 0 2; P 0 1; P 0 0; \
+                  B 0 3; D 0 2; C 0 3 0; L 0 3; P 0 1; P 1";
     let store = lines_from(Store::new(1), 1, input, output)?;
     same("entries", entries_of_lot(&store, 0), Vec::new())?;
     same("area", (store.manager.partitions.at[0].area, store.manager.partitions.spare), (0, 8))?;
@@ -456,8 +437,8 @@ fn purge() -> Told {
 fn purge_own_clearing() -> Told {
     // Of one epoch, the rows before its clearing go and the rows after it stay.
     lines(
-        "B; B; A 1 0 1; A 2 0 2; D 2 0; A 2 0 3; A 1 0 4; C 1; C 2; F 2; L 0; P 0; P 0; R 0; S p1 0",
-        "B 0 1; B 0 2; A 0 1; A 0 2; D 0 3; A 0 3; A 0 4; C 0 1 2; C 0 2 0; F 0 2; L 0 2; P 0 1; P 0 0; R 0 1; \
+        "B; B; A 1 0 1; A 2 0 2; D 2 0; A 2 0 3; A 1 0 4; C 1; C 2; L 0; P 0; P 0; R 0; S p1 0",
+        "B 0 1; B 0 2; A 0 1; A 0 2; D 0 3; A 0 3; A 0 4; C 0 1 2; C 0 2 0; L 0 2; P 0 1; P 0 0; R 0 1; \
          S 0 3",
     )
 }
@@ -499,7 +480,6 @@ fn gap() -> Told {
         ("S l3 0", "S 0"),
         ("E 5", "E 0 1"),
         ("P 0", "P 0 0"),
-        ("F 2", "F 0 2"),
         ("L 1", "L 0 1"),
         ("P 0", "P 0 0"),
         ("L 0", "L 0 2"),
@@ -636,7 +616,6 @@ fn total_purge() -> Told {
         ("B", "B 0 3", 6),
         ("A 3 0 8", "A 0 3", 6),
         ("C 3", "C 0 3 0", 14),
-        ("F 3", "F 0 3", 14),
         ("L 2", "L 0 2", 14),
         ("P 0", "P 0 1", 14),
         ("P 0", "P 0 0", 14),

@@ -9,8 +9,7 @@ use crate::refusal::Refusal;
 use crate::round::{CONTENTS, ROW};
 use crate::session::{parse, print, Session};
 use crate::sound::{broken_clauses, well_formed};
-use crate::store::{Closed, Manager, Store};
-use crate::txn::blocked_by_readers;
+use crate::store::{Closed, Store};
 use crate::visible::{bytes_needed, shown, Reader, View};
 use crate::{AREA_ENTRIES, AREA_ROWS, DEPS, LAST_EPOCH, PARTITIONS, TICKET_END, TXNS};
 use std::collections::BTreeSet;
@@ -67,13 +66,6 @@ pub enum Edge {
     LseStays,
     LseAsFarAsHeld,
     LseToLce,
-    LseMoves,
-    LseToConfirmed,
-    LseOneAboveConfirmed,
-    LseHeldByConfirmedAlone,
-    LseHeldByReadersAlone,
-    LseZeroStopsAtConfirmed,
-    LseZeroStopsBelowConfirmed,
     SaveAtZero,
     SaveZeroRefused,
     SaveBelowLce,
@@ -107,19 +99,10 @@ pub enum Edge {
     ClearAfterRecovery,
     PurgeAfterRecovery,
     SaveAfterRecovery,
-    ConfirmRaises,
-    ConfirmStays,
-    ConfirmToLce,
-    ConfirmBelowLce,
-    ConfirmAtZero,
-    ConfirmZeroRefused,
-    ConfirmOneBelow,
-    ConfirmOneAboveLce,
-    ConfirmAfterRecovery,
 }
 
 impl Edge {
-    pub const ALL: [Edge; 98] = [
+    pub const ALL: [Edge; 82] = [
         Edge::PurgeSkipped,
         Edge::PurgeRewritten,
         Edge::PurgeJoined,
@@ -169,13 +152,6 @@ impl Edge {
         Edge::LseStays,
         Edge::LseAsFarAsHeld,
         Edge::LseToLce,
-        Edge::LseMoves,
-        Edge::LseToConfirmed,
-        Edge::LseOneAboveConfirmed,
-        Edge::LseHeldByConfirmedAlone,
-        Edge::LseHeldByReadersAlone,
-        Edge::LseZeroStopsAtConfirmed,
-        Edge::LseZeroStopsBelowConfirmed,
         Edge::SaveAtZero,
         Edge::SaveZeroRefused,
         Edge::SaveBelowLce,
@@ -209,15 +185,6 @@ impl Edge {
         Edge::ClearAfterRecovery,
         Edge::PurgeAfterRecovery,
         Edge::SaveAfterRecovery,
-        Edge::ConfirmRaises,
-        Edge::ConfirmStays,
-        Edge::ConfirmToLce,
-        Edge::ConfirmBelowLce,
-        Edge::ConfirmAtZero,
-        Edge::ConfirmZeroRefused,
-        Edge::ConfirmOneBelow,
-        Edge::ConfirmOneAboveLce,
-        Edge::ConfirmAfterRecovery,
     ];
 }
 
@@ -267,7 +234,6 @@ pub const POSSIBLE: [&[u64]; CALL_NAMES.len()] = [
     &[5, 1, 2, 3],
     &[5, 4, 3],
     &[5, 11],
-    &[5, 4],
 ];
 
 /// The pairs of refusals that can be due at once, 5 left out. With a lot above 7 there is no room to judge.
@@ -345,44 +311,6 @@ impl Coverage {
         self.meet(Edge::SaveLeavesLater, accepted && has_rows && later);
         self.meet(Edge::Save512Rows, accepted && full);
         self.meet(Edge::SaveAfterRecovery, accepted && has_rows && recovered);
-    }
-
-    /// A move of LSE to a target, by the books before it and after it, that answered the number.
-    fn meet_move(&mut self, old: &Manager, new: &Manager, target: u64, number: u64) {
-        let (was, is) = (old.clock, new.clock);
-        let (accepted, held) = (number == 0, number == 10);
-        let moves = accepted && is.lse > was.lse;
-        self.meet(Edge::LseMoves, moves);
-        self.meet(Edge::LseStays, accepted && target != 0 && is.lse == was.lse);
-        self.meet(Edge::LseAsFarAsHeld, accepted && target == 0 && is.lse < is.lce);
-        self.meet(Edge::LseToLce, moves && is.lse == is.lce);
-        self.meet(Edge::LseToConfirmed, moves && target == was.confirmed && target < is.lce);
-        let by_readers = held && blocked_by_readers(&old.rw, &old.ro, target);
-        self.meet(Edge::LseOneAboveConfirmed, held && !by_readers && target == was.confirmed + 1);
-        self.meet(Edge::LseHeldByConfirmedAlone, held && !by_readers);
-        self.meet(Edge::LseHeldByReadersAlone, by_readers && target <= was.confirmed);
-        let zero_moves = moves && target == 0;
-        self.meet(Edge::LseZeroStopsAtConfirmed, zero_moves && is.lse == was.confirmed && is.lse < is.lce);
-        self.meet(Edge::LseZeroStopsBelowConfirmed, zero_moves && is.lse < was.confirmed);
-    }
-
-    /// A confirmation of an epoch, by the books before it, that answered the number.
-    fn meet_confirm(&mut self, old: &Manager, epoch: u64, number: u64, recovered: bool) {
-        let clock = old.clock;
-        let (accepted, refused) = (number == 0, number == 4);
-        let raises = accepted && epoch > clock.confirmed;
-        self.meet(Edge::ConfirmRaises, raises);
-        self.meet(Edge::ConfirmStays, accepted && epoch == clock.confirmed);
-        self.meet(Edge::ConfirmToLce, raises && epoch == clock.lce);
-        self.meet(Edge::ConfirmBelowLce, raises && epoch < clock.lce);
-        self.meet(Edge::ConfirmAtZero, accepted && epoch == 0 && clock.lce > 0);
-        self.meet(Edge::ConfirmZeroRefused, refused && epoch == 0);
-        self.meet(
-            Edge::ConfirmOneBelow,
-            refused && clock.lse <= epoch && Some(epoch) == clock.confirmed.checked_sub(1),
-        );
-        self.meet(Edge::ConfirmOneAboveLce, refused && epoch == clock.lce + 1);
-        self.meet(Edge::ConfirmAfterRecovery, raises && recovered);
     }
 
     /// A recovery of a file over the store, whose lengths are right.
@@ -563,8 +491,7 @@ impl Checked {
             Call::Open { epoch } => self.ledger.open(*epoch, number, value),
             Call::Close { ticket } => self.ledger.close(*ticket, number),
             Call::Recover { file } => self.ledger.recover(file, number),
-            Call::MoveLse { .. } | Call::Purge { .. } | Call::Scan { .. } => {}
-            Call::Save { .. } | Call::Confirm { .. } => {}
+            Call::MoveLse { .. } | Call::Purge { .. } | Call::Scan { .. } | Call::Save { .. } => {}
         }
     }
 
@@ -772,8 +699,12 @@ impl Checked {
                 coverage.meet(Edge::PageAtLse, ro_txn.epoch == new.clock.lse && ro_txn.epoch < new.clock.lce);
                 coverage.meet(Edge::PageBelowLce, ro_txn.epoch < new.clock.lce);
             }
-            Call::MoveLse { target } => coverage.meet_move(old, new, *target, number),
-            Call::Confirm { epoch } => coverage.meet_confirm(old, *epoch, number, *recovered),
+            Call::MoveLse { target } if accepted => {
+                coverage.meet(Edge::LseStays, *target != 0 && new.clock.lse == old.clock.lse);
+                coverage.meet(Edge::LseAsFarAsHeld, *target == 0 && new.clock.lse < new.clock.lce);
+                coverage
+                    .meet(Edge::LseToLce, new.clock.lse == new.clock.lce && new.clock.lse > old.clock.lse);
+            }
             Call::Purge { partition } if accepted => {
                 let p = *partition as usize;
                 let (was, is) = (&old.partitions.at[p], &new.partitions.at[p]);

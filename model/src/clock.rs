@@ -1,4 +1,4 @@
-//! The clock of the books: EC, LCE and LSE (01, "The books"), and F (02, (vi)).
+//! The clock of the books: EC, LCE and LSE (01, "The books").
 
 #[repr(C)]
 #[derive(Clone, Copy, Debug, Default, PartialEq, Eq)]
@@ -9,14 +9,12 @@ pub struct Clock {
     pub lce: u64,
     /// The latest safe epoch.
     pub lse: u64,
-    /// F, the last epoch confirmed as saved.
-    pub confirmed: u64,
 }
 
 impl Clock {
     /// The clock of a store made new at `start`.
     pub fn starting_at(start: u64) -> Clock {
-        Clock { ec: start, lce: start - 1, lse: start - 1, confirmed: start - 1 }
+        Clock { ec: start, lce: start - 1, lse: start - 1 }
     }
 
     /// Hands out EC and steps it by one.

@@ -1,5 +1,5 @@
 //! A second reading of calls: refusals as a table, row by row (01, "The books", "Lots", refusals; 02, (i) to (iii),
-//! (v), (vi)).
+//! (v)).
 //!
 //! It uses the shape of the books, the test of *sound*, and nothing else of the store's code, so that the two
 //! can be compared word for word.
@@ -80,7 +80,6 @@ pub fn due(store: &Store, call: &Call) -> Vec<u64> {
             holds[4] = *target != 0 && (*target < clock.lse || *target > clock.lce);
             holds[10] = *target != 0 && blocked(&store.manager, *target);
         }
-        Call::Confirm { epoch } => holds[4] = *epoch < clock.confirmed || *epoch > clock.lce,
         Call::Purge { partition } => holds[1] = *partition > 7,
         Call::Scan { reader, partition, lent } => {
             holds[1] = *partition > 7;
@@ -102,8 +101,7 @@ pub fn due(store: &Store, call: &Call) -> Vec<u64> {
 fn blocked(books: &Manager, target: u64) -> bool {
     let ro_txns = &books.ro.at[..books.ro.count as usize];
     let rw_txns = &books.rw.at[..books.rw.count as usize];
-    target > books.clock.confirmed
-        || ro_txns.iter().any(|ro_txn| ro_txn.epoch < target)
+    ro_txns.iter().any(|ro_txn| ro_txn.epoch < target)
         || rw_txns.iter().any(|rw_txn| {
             rw_txn.waiting == 0 && rw_txn.deps[..rw_txn.deps_count as usize].iter().any(|&dep| dep <= target)
         })
@@ -411,7 +409,7 @@ fn accepted(store: &mut Store, call: &Call, lent: &mut [u8]) -> Answer {
             let target = if *target == 0 {
                 let ro_txns = books.ro.at.iter().map(|ro_txn| ro_txn.epoch);
                 let deps = books.rw.at.iter().flat_map(|rw_txn| rw_txn.deps).map(|dep| dep.saturating_sub(1));
-                let ends = [books.clock.lse, books.clock.lce, books.clock.confirmed].into_iter();
+                let ends = [books.clock.lse, books.clock.lce].into_iter();
                 let candidates = ro_txns.chain(deps).chain(ends);
                 let in_range = candidates.filter(|t| (books.clock.lse..=books.clock.lce).contains(t));
                 in_range.filter(|&t| !blocked(books, t)).max().expect("LSE is not held")
@@ -420,10 +418,6 @@ fn accepted(store: &mut Store, call: &Call, lent: &mut [u8]) -> Answer {
             };
             store.manager.clock.lse = target;
             target
-        }
-        Call::Confirm { epoch } => {
-            store.manager.clock.confirmed = *epoch;
-            *epoch
         }
         Call::Purge { partition } => {
             let p = *partition as usize;
@@ -478,8 +472,7 @@ fn accepted(store: &mut Store, call: &Call, lent: &mut [u8]) -> Answer {
 /// Makes the books new.
 fn make_new(books: &mut Manager, start: u64) {
     let zero_txn = RwTxn { epoch: 0, waiting: 0, deps: [0; 31], deps_count: 0 };
-    (books.clock.ec, books.clock.lce) = (start, start - 1);
-    (books.clock.lse, books.clock.confirmed) = (start - 1, start - 1);
+    (books.clock.ec, books.clock.lce, books.clock.lse) = (start, start - 1, start - 1);
     books.rw.at = [zero_txn; 32];
     books.rw.count = 0;
     books.ro.at = [RoTxn { ticket: 0, epoch: 0 }; 32];

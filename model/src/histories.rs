@@ -1,7 +1,6 @@
-//! Random calls and random session lines by seed and profile (01, "A session" and the calls; 02, (v), (vi)).
+//! Random calls and random session lines by seed and profile (01, "A session" and the calls; 02, (v)).
 
 use crate::call::Call;
-use crate::clock::Clock;
 use crate::files::any_file;
 use crate::ledger::Ledger;
 use crate::partition::{entries_of, Entry, Partition};
@@ -28,8 +27,8 @@ pub struct Profile {
     /// Of 1,000 lines, how many are garbage. Calls do not look at it.
     pub garbage: u64,
     /// Weights: begin or end a load, append, clear, open or close a page, move LSE, purge, scan, make new, save,
-    /// recover, confirm.
-    pub weights: [u64; 11],
+    /// recover.
+    pub weights: [u64; 10],
     /// Of 1,000 ended loads, how many are rolled back.
     pub rollback: u64,
 }
@@ -43,7 +42,7 @@ pub const PROFILES: [Profile; 11] = [
         batch: 12,
         wrong: 40,
         garbage: 10,
-        weights: [220, 350, 60, 80, 90, 150, 135, 3, 30, 3, 25],
+        weights: [200, 350, 60, 80, 60, 120, 120, 3, 30, 3],
         rollback: 200,
     },
     Profile {
@@ -54,7 +53,7 @@ pub const PROFILES: [Profile; 11] = [
         batch: 30,
         wrong: 20,
         garbage: 5,
-        weights: [220, 350, 40, 80, 120, 150, 110, 2, 30, 2, 30],
+        weights: [200, 350, 40, 80, 80, 120, 100, 2, 30, 2],
         rollback: 200,
     },
     Profile {
@@ -65,7 +64,7 @@ pub const PROFILES: [Profile; 11] = [
         batch: 2,
         wrong: 15,
         garbage: 5,
-        weights: [100, 600, 60, 40, 10, 10, 60, 0, 10, 0, 4],
+        weights: [100, 600, 60, 40, 10, 10, 60, 0, 10, 0],
         rollback: 150,
     },
     Profile {
@@ -76,7 +75,7 @@ pub const PROFILES: [Profile; 11] = [
         batch: 4,
         wrong: 15,
         garbage: 5,
-        weights: [550, 250, 20, 40, 60, 75, 65, 1, 20, 1, 15],
+        weights: [500, 250, 20, 40, 40, 60, 60, 1, 20, 1],
         rollback: 250,
     },
     Profile {
@@ -87,7 +86,7 @@ pub const PROFILES: [Profile; 11] = [
         batch: 8,
         wrong: 15,
         garbage: 5,
-        weights: [220, 250, 40, 200, 60, 100, 65, 1, 30, 1, 15],
+        weights: [200, 250, 40, 200, 40, 80, 60, 1, 30, 1],
         rollback: 150,
     },
     Profile {
@@ -98,7 +97,7 @@ pub const PROFILES: [Profile; 11] = [
         batch: 8,
         wrong: 15,
         garbage: 5,
-        weights: [220, 300, 250, 70, 90, 125, 90, 1, 30, 1, 25],
+        weights: [200, 300, 250, 70, 60, 100, 80, 1, 30, 1],
         rollback: 150,
     },
     Profile {
@@ -109,7 +108,7 @@ pub const PROFILES: [Profile; 11] = [
         batch: 8,
         wrong: 15,
         garbage: 5,
-        weights: [330, 400, 60, 60, 60, 75, 90, 1, 20, 1, 15],
+        weights: [300, 400, 60, 60, 40, 60, 80, 1, 20, 1],
         rollback: 750,
     },
     Profile {
@@ -120,7 +119,7 @@ pub const PROFILES: [Profile; 11] = [
         batch: 10,
         wrong: 15,
         garbage: 5,
-        weights: [275, 250, 80, 60, 270, 310, 65, 1, 30, 1, 70],
+        weights: [250, 250, 80, 60, 180, 250, 60, 1, 30, 1],
         rollback: 150,
     },
     Profile {
@@ -131,7 +130,7 @@ pub const PROFILES: [Profile; 11] = [
         batch: 40,
         wrong: 30,
         garbage: 5,
-        weights: [275, 250, 60, 40, 60, 50, 45, 2, 250, 40, 15],
+        weights: [250, 250, 60, 40, 40, 40, 40, 2, 250, 40],
         rollback: 150,
     },
     Profile {
@@ -142,7 +141,7 @@ pub const PROFILES: [Profile; 11] = [
         batch: 60,
         wrong: 450,
         garbage: 30,
-        weights: [220, 250, 100, 120, 150, 100, 170, 10, 60, 10, 40],
+        weights: [200, 250, 100, 120, 100, 80, 150, 10, 60, 10],
         rollback: 200,
     },
     Profile {
@@ -153,7 +152,7 @@ pub const PROFILES: [Profile; 11] = [
         batch: 12,
         wrong: 100,
         garbage: 450,
-        weights: [220, 350, 60, 80, 90, 150, 135, 3, 30, 3, 25],
+        weights: [200, 350, 60, 80, 60, 120, 120, 3, 30, 3],
         rollback: 200,
     },
 ];
@@ -183,8 +182,6 @@ pub struct Calls {
     left: u64,
     /// The rounds of the accepted saves, for a later recovery.
     saved: Vec<Round>,
-    /// Whether LSE is moved next, after the confirmation that was made for it.
-    moves: bool,
 }
 
 impl Calls {
@@ -193,7 +190,7 @@ impl Calls {
         for byte in profile.name.bytes() {
             mixed = Rng::new(mixed.any() ^ u64::from(byte));
         }
-        Calls { rng: mixed, profile, phase: Phase::Usual, left: 0, saved: Vec::new(), moves: false }
+        Calls { rng: mixed, profile, phase: Phase::Usual, left: 0, saved: Vec::new() }
     }
 
     /// A store that making new or recovery left in areas of any words, and its ledger.
@@ -242,9 +239,6 @@ impl Calls {
             };
         }
         self.left -= 1;
-        if self.moves {
-            return self.move_lse(store);
-        }
         let mut weights = self.profile.weights;
         match self.phase {
             Phase::Usual => {}
@@ -254,18 +248,10 @@ impl Calls {
                 weights[3] *= 2;
                 weights[4] *= 3;
                 weights[5] *= 2;
-                weights[10] *= 3;
             }
             Phase::Burst => {
                 weights[0] *= 2;
                 weights[3] *= 4;
-            }
-        }
-        // Where LSE is at LCE there is nothing to move or to confirm: more often a load begins or ends.
-        if store.manager.clock.lse == store.manager.clock.lce {
-            for at in [4, 10] {
-                weights[0] += weights[at] / 2;
-                weights[at] -= weights[at] / 2;
             }
         }
         let mut ball = self.rng.below(weights.iter().sum());
@@ -279,13 +265,12 @@ impl Calls {
             1 => self.append(store),
             2 => Call::Clear { epoch: self.epoch(store), partition: self.partition() },
             3 => self.open_or_close(store),
-            4 => self.move_lse(store),
+            4 => Call::MoveLse { target: self.page_epoch(store) },
             5 => self.purge(store),
             6 => self.scan(store),
             7 => Call::New { start: self.start() },
             8 => self.save(store),
-            9 => self.recover(),
-            _ => Call::Confirm { epoch: self.confirmed_epoch(store) },
+            _ => self.recover(),
         }
     }
 
@@ -445,17 +430,6 @@ impl Calls {
         Call::Recover { file: any_file(&mut self.rng, &self.saved, wrong) }
     }
 
-    /// A move of LSE, or what most do before it: a confirmation of what F has not reached yet.
-    fn move_lse(&mut self, store: &Store) -> Call {
-        let clock = store.manager.clock;
-        self.moves = !self.moves && clock.confirmed < clock.lce && self.rng.per_mille(850);
-        if self.moves {
-            Call::Confirm { epoch: self.confirmed_epoch(store) }
-        } else {
-            Call::MoveLse { target: self.lse_target(store) }
-        }
-    }
-
     fn partition(&mut self) -> u64 {
         if self.wrong() {
             match self.rng.below(3) {
@@ -494,63 +468,22 @@ impl Calls {
         }
     }
 
-    /// An epoch outside LSE to LCE, but for some.
-    fn wrong_epoch(&mut self, clock: Clock) -> u64 {
-        match self.rng.below(4) {
-            0 => clock.lce + 1,
-            1 => clock.lse.saturating_sub(1),
-            2 => clock.lce + (1 << 32),
-            _ => self.rng.word(),
-        }
-    }
-
-    /// A page epoch.
+    /// A page epoch or LSE target.
     fn page_epoch(&mut self, store: &Store) -> u64 {
         let clock = store.manager.clock;
         if self.wrong() {
-            return self.wrong_epoch(clock);
+            return match self.rng.below(4) {
+                0 => clock.lce + 1,
+                1 => clock.lse.saturating_sub(1),
+                2 => clock.lce + (1 << 32),
+                _ => self.rng.word(),
+            };
         }
         match self.rng.below(8) {
             0..=3 => 0,
             4 => clock.lse,
             5 => clock.lce,
             _ => self.rng.within(clock.lse, clock.lce),
-        }
-    }
-
-    /// An LSE target: as far as it may go, F, just above it, or anywhere up to LCE.
-    fn lse_target(&mut self, store: &Store) -> u64 {
-        let clock = store.manager.clock;
-        if self.wrong() {
-            return self.wrong_epoch(clock);
-        }
-        match self.rng.below(16) {
-            0..=8 => 0,
-            9 => clock.lse,
-            10 => clock.lce,
-            11 => clock.confirmed,
-            12 => clock.lce.min(clock.confirmed + 1),
-            13 => self.rng.within(clock.lse, clock.confirmed),
-            _ => self.rng.within(clock.lse, clock.lce),
-        }
-    }
-
-    /// An epoch to confirm: most often LCE, so that LSE can move; or another from F on. A wrong one may lie below F and
-    /// not below LSE.
-    fn confirmed_epoch(&mut self, store: &Store) -> u64 {
-        let clock = store.manager.clock;
-        if self.wrong() {
-            return match self.rng.below(4) {
-                0 => clock.confirmed.saturating_sub(1),
-                1 => self.rng.within(clock.lse, clock.confirmed),
-                _ => self.wrong_epoch(clock),
-            };
-        }
-        match self.rng.below(16) {
-            0..=11 => clock.lce,
-            12 => clock.confirmed,
-            13 => 0,
-            _ => self.rng.within(clock.confirmed, clock.lce),
         }
     }
 }
@@ -624,7 +557,7 @@ fn garbage(mut line: Vec<u8>, rng: &mut Rng) -> Vec<u8> {
             let length = rng.within(1, 40_000) as usize;
             line = (0..length).map(|_| rng.pick(b"ABS 0123")).collect();
         }
-        15 => line = (0..rng.within(1, 30)).map(|_| rng.pick(b"ABCDEFLPRSX lp0123456789")).collect(),
+        15 => line = (0..rng.within(1, 30)).map(|_| rng.pick(b"ABCDELPRSX lp0123456789")).collect(),
         16 => {
             let digits = rng.within(1, 25);
             line = b"C ".to_vec();

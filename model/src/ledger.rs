@@ -1,8 +1,7 @@
-//! The ledger of demand 3, which shares no code with the store (01, "The ledger of demand 3"; 02, (ii), (iii), (v),
-//! (vi)).
+//! The ledger of demand 3, which shares no code with the store (01, "The ledger of demand 3"; 02, (ii), (iii), (v)).
 //!
-//! It is fed each call's arguments and number, begin's epoch and open's ticket. Number 0 means accepted. From saving
-//! and from confirming it takes nothing; a recovery starts it anew, as making new does.
+//! It is fed each call's arguments and number, begin's epoch and open's ticket. Number 0 means accepted. From saving it
+//! takes nothing; a recovery starts it anew, as making new does.
 
 use std::collections::{BTreeMap, BTreeSet};
 

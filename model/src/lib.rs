@@ -1,4 +1,4 @@
-//! A plain model of the store of document 01, with requests (i) to (iii), (v) and (vi) of document 02: its limits (01,
+//! A plain model of the store of document 01, with requests (i) to (iii) and (v) of document 02: its limits (01,
 //! "Words of this store", "Lots", refusals).
 //!
 //! The modules, by subject:
@@ -10,14 +10,12 @@
 //! - `call`, `expect`, `check`: calls as values, what each must do by a second reading, histories checked;
 //! - `random`, `histories`, `stores`, `files`: seeded numbers, random calls and lines, random and spoilt stores,
 //!   random and corrupt files of rounds;
-//! - `cases`, `round_cases`, `confirm_cases`: the fixed cases; `variant`: wrong readings that the tests must tell
-//!   apart.
+//! - `cases`, `round_cases`: the fixed cases; `variant`: wrong readings that the tests must tell apart.
 
 pub mod call;
 pub mod cases;
 pub mod check;
 pub mod clock;
-mod confirm_cases;
 pub mod expect;
 pub mod files;
 pub mod histories;

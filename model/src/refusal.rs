@@ -1,5 +1,4 @@
-//! The eleven refusals and their numbers (01, "Refusals that come from the input" and "... from the state"; 02, (v),
-//! (vi)).
+//! The eleven refusals and their numbers (01, "Refusals that come from the input" and "... from the state"; 02, (v)).
 
 #[derive(Clone, Copy, Debug, PartialEq, Eq)]
 pub enum Refusal {
@@ -9,7 +8,7 @@ pub enum Refusal {
     NotOpen = 2,
     /// The bitmap of a scan, or the output of a save, is shorter than the rows need.
     TooShort = 3,
-    /// Starting epoch, page epoch, LSE target, the epoch of a save or the epoch confirmed out of range.
+    /// Starting epoch, page epoch, LSE target or the epoch of a save out of range.
     OutOfRange = 4,
     /// The store is unsound, or lent areas have a wrong length.
     NotWellFormed = 5,
@@ -21,7 +20,7 @@ pub enum Refusal {
     RowsFull = 8,
     /// An entry is needed and the lot has 64.
     EntriesFull = 9,
-    /// The move of LSE is held: by an open page or load, or because its target is not confirmed as saved.
+    /// The move of LSE is held.
     Blocked = 10,
     /// A table of contents with a count above 512, an epoch out of range or below the round before, or 0 with rows.
     Corrupt = 11,

@@ -1,9 +1,8 @@
-//! The fixed cases of saved rounds, every byte written out (02, (v), (vi)).
+//! The fixed cases of saved rounds, every byte written out (02, (v)).
 
 use crate::call::{number_of, Answer, Call, LENT_FILL};
 use crate::cases::{same, Told};
 use crate::check::{Checked, Checks, Outcome};
-use crate::clock::Clock;
 use crate::ledger::Ledger;
 use crate::partition::{Entry, CLEARING, ROWS};
 use crate::session::{parse, print};
@@ -87,7 +86,7 @@ fn recovers(checked: &mut Checked, file: &[u8]) -> Told {
 /// Books without a load and a page, at these epochs.
 fn books_at(ec: u64, lce: u64) -> Manager {
     let mut books = Manager::starting_at(1);
-    books.clock = Clock { ec, lce, lse: lce, confirmed: lce };
+    (books.clock.ec, books.clock.lce, books.clock.lse) = (ec, lce, lce);
     books
 }
 
@@ -146,7 +145,7 @@ pub fn saved_bytes() -> Told {
 
 pub fn saved_in_range() -> Told {
     let mut checked = worked_store()?;
-    lines(&mut checked, "C 3; F 2; L 1", "C 0 3 0; F 0 2; L 0 1")?;
+    lines(&mut checked, "C 3; L 1", "C 0 3 0; L 0 1")?;
     for (epoch, number) in [(0, 4), (1, 0), (2, 0), (3, 0), (4, 4), (LAST_EPOCH, 4), (u64::MAX, 4)] {
         let answer = checked.call(&Call::Save { epoch, lent: 200 })?.answer;
         same(&format!("a save at {epoch}"), number_of(&answer), number)?;
@@ -212,7 +211,7 @@ pub fn recovered_words() -> Told {
     let mut checked = Checked::new(store, Ledger::new(1), Checks::ALL);
     recovers(&mut checked, &file)?;
     let books = &checked.store.manager;
-    same("clock", books.clock, books_at(3, 2).clock)?;
+    same("clock", (books.clock.ec, books.clock.lce, books.clock.lse), (3, 2, 2))?;
     same("loads", books.rw, RwTable::default())?;
     same("pages", books.ro, RoTable { next: 1, ..RoTable::default() })?;
     let lots = books.partitions.at.map(|part| (part.area, part.rows, part.entries));
@@ -315,7 +314,7 @@ pub fn recovered_at_the_edges() -> Told {
     let mut checked = Checked::new(any_areas(), Ledger::new(1), Checks::ALL);
     recovers(&mut checked, &[&AT_2[..], &LONG_CONTENTS, &body].concat())?;
     let (books, is) = (&checked.store.manager, &checked.store.rows);
-    same("clock", books.clock, books_at(EPOCH_END, LAST_EPOCH).clock)?;
+    same("clock", (books.clock.ec, books.clock.lce, books.clock.lse), (EPOCH_END, LAST_EPOCH, LAST_EPOCH))?;
     same("row counts", books.partitions.at.map(|part| part.rows), [512, 258, 0, 0, 1, 0, 0, 0])?;
     same("lot 0", &is[..AREA_ROWS], &rows[..512])?;
     same("lot 1", (&is[512..770], is[770]), (&rows[512..770], 7))?;
@@ -335,23 +334,18 @@ pub fn recovered_history() -> Told {
     lines(
         &mut checked,
         "S l3 0; C 3; S p1 0; E 2; C 1; X 1; S l1 0; R 0; S p1 0; S p1 7; B; S l2 0; A 2 0 6; S l2 0; S p1 0; \
-         D 2 7; B; S l3 0; S l3 7; C 2; C 3; R 0; S p2 0; S p2 7; S p1 7; F 0; F 3; L 0; L 2; E 1; L 2; \
-         P 0; P 7; S p2 0; L 4",
+         D 2 7; B; S l3 0; S l3 7; C 2; C 3; R 0; S p2 0; S p2 7; S p1 7; L 0; L 2; E 1; L 2; P 0; P 7; S p2 0; L 4",
         "S 2; C 2; S 2; E 2; C 2; X 2; S 2; R 0 1; S 0 578437695752307201 5; S 0 18446744073709551615; B 0 2; \
          S 0 578437695752307201 5; A 0 3; S 0 578437695752307201 5 6; S 0 578437695752307201 5; D 0 2; B 0 3; \
          S 0 578437695752307201 5; S 0 18446744073709551615; C 0 2 3; C 0 3 0; R 0 2; \
-         S 0 578437695752307201 5 6; S 0; S 0 18446744073709551615; F 4; F 0 3; L 0 1; L 10; E 0 1; L 0 2; \
-         P 0 1; P 0 1; S 0 578437695752307201 5 6; L 4",
+         S 0 578437695752307201 5 6; S 0; S 0 18446744073709551615; L 0 1; L 10; E 0 1; L 0 2; P 0 1; P 0 1; \
+         S 0 578437695752307201 5 6; L 4",
     )?;
     let entries: Vec<Entry> = checked.store.entries[8 * 64..8 * 64 + 1].to_vec();
     same("purged", entries, vec![Entry { epoch: 2, end: 3, mark: ROWS }])?;
     // At epoch 0 there is no load, and what follows begins with 1.
     recovers(&mut checked, &AT_0)?;
-    lines(
-        &mut checked,
-        "R 0; S p1 0; F 0; L 0; B; D 1 0; C 1",
-        "R 0 1; S 0; F 0 0; L 0 0; B 0 1; D 0 1; C 0 1 0",
-    )?;
+    lines(&mut checked, "R 0; S p1 0; L 0; B; D 1 0; C 1", "R 0 1; S 0; L 0 0; B 0 1; D 0 1; C 0 1 0")?;
     same("clearing", checked.store.entries[0], Entry { epoch: 1, end: 0, mark: CLEARING })
 }
 

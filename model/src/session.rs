@@ -1,4 +1,4 @@
-//! The line program: its grammar, its answers, and the reading of lines (01, "A session"; 02, (i), (vi)).
+//! The line program: its grammar, its answers, and the reading of lines (01, "A session"; 02, (i)).
 
 use crate::call::{number_of, Answer, Call};
 use crate::partition::rows_of;
@@ -40,7 +40,6 @@ pub fn parse(line: &[u8]) -> Option<Call> {
         [b"R", epoch] => Call::Open { epoch: number(epoch)? },
         [b"E", ticket] => Call::Close { ticket: number(ticket)? },
         [b"L", target] => Call::MoveLse { target: number(target)? },
-        [b"F", epoch] => Call::Confirm { epoch: number(epoch)? },
         [b"P", partition] => Call::Purge { partition: number(partition)? },
         [b"S", [b'l', epoch @ ..], partition] => {
             let reader = Reader::Rw(number(epoch)?);
@@ -88,7 +87,6 @@ pub fn line_of(call: &Call) -> Option<String> {
         Call::Open { epoch } => format!("R {epoch}"),
         Call::Close { ticket } => format!("E {ticket}"),
         Call::MoveLse { target } => format!("L {target}"),
-        Call::Confirm { epoch } => format!("F {epoch}"),
         Call::Purge { partition } => format!("P {partition}"),
         Call::Scan { reader: Reader::Rw(epoch), partition, .. } => format!("S l{epoch} {partition}"),
         Call::Scan { reader: Reader::Ro(ticket), partition, .. } => format!("S p{ticket} {partition}"),
@@ -108,7 +106,6 @@ pub fn print(call: &Call, answer: &Result<Answer, Refusal>, store: &Store, bitma
         Call::Open { .. } => 'R',
         Call::Close { .. } => 'E',
         Call::MoveLse { .. } => 'L',
-        Call::Confirm { .. } => 'F',
         Call::Purge { .. } => 'P',
         Call::Scan { .. } => 'S',
         Call::Save { .. } => 'K',

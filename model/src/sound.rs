@@ -1,10 +1,8 @@
-//! What a well-formed store is, clause by clause (01, "Refusals that come from the state": *Sound*; 02, (iii),
-//! (vi)).
+//! What a well-formed store is, clause by clause (01, "Refusals that come from the state": *Sound*; 02, (iii)).
 
 use crate::partition::{Entry, CLEARING, ROWS};
 use crate::store::Store;
 use crate::txn::{OPEN, WAITING};
-use crate::variant::{wrong, Variant};
 use crate::{AREAS, AREA_ENTRIES, AREA_ROWS, DEPS, EPOCH_END, PARTITIONS, TICKET_END, TXNS};
 
 /// The lent areas have 4,608 rows and 576 entries.
@@ -25,10 +23,9 @@ pub fn broken_clauses(store: &Store) -> Vec<&'static str> {
 pub type Clause = (&'static str, fn(&Store) -> bool);
 
 /// Each clause stands by itself: it never fails only because another one does, and never panics.
-pub const CLAUSES: [Clause; 23] = [
+pub const CLAUSES: [Clause; 22] = [
     ("lengths", lengths_right),
     ("clock", clock),
-    ("confirmed", confirmed),
     ("rw count", rw_count),
     ("rw epochs", rw_epochs),
     ("rw flags", rw_flags),
@@ -55,12 +52,6 @@ pub const CLAUSES: [Clause; 23] = [
 fn clock(store: &Store) -> bool {
     let clock = &store.manager.clock;
     1 <= clock.ec && clock.ec <= EPOCH_END && clock.ec > clock.lce && clock.lce >= clock.lse
-}
-
-// LSE <= F <= LCE.
-fn confirmed(store: &Store) -> bool {
-    let clock = &store.manager.clock;
-    clock.lse <= clock.confirmed && clock.confirmed <= clock.lce || wrong(Variant::SoundIgnoresConfirmed)
 }
 
 // At most 32 load records.

@@ -1,5 +1,5 @@
 //! The store and its calls, each with its refusals in 01's order (01, "The books", "Lots", refusals; 02, (i), (iii),
-//! (v), (vi)).
+//! (v)).
 
 use crate::clock::Clock;
 use crate::partition::{entries_of, extends_last, rows_of, Areas, Entry, Partition, Partitions, ROWS};
@@ -73,7 +73,7 @@ impl Manager {
 
     /// All words of the books in the order of their fields.
     pub fn words(&self) -> Vec<u64> {
-        let mut words = vec![self.clock.ec, self.clock.lce, self.clock.lse, self.clock.confirmed];
+        let mut words = vec![self.clock.ec, self.clock.lce, self.clock.lse];
         for txn in &self.rw.at {
             words.extend([txn.epoch, txn.waiting]);
             words.extend(txn.deps);
@@ -100,7 +100,7 @@ impl Manager {
         }
         let mut words = words.iter().copied();
         let mut next = || words.next().unwrap_or(0);
-        books.clock = Clock { ec: next(), lce: next(), lse: next(), confirmed: next() };
+        books.clock = Clock { ec: next(), lce: next(), lse: next() };
         for txn in &mut books.rw.at {
             (txn.epoch, txn.waiting) = (next(), next());
             txn.deps.fill_with(&mut next);
@@ -139,11 +139,7 @@ impl Store {
         if !(1..=LAST_EPOCH).contains(&start) {
             return Err(Refusal::OutOfRange);
         }
-        let old = self.manager;
         self.manager = Manager::starting_at(start);
-        if wrong(Variant::NewKeepsConfirmed) {
-            self.manager.clock.confirmed = old.clock.confirmed;
-        }
         Ok(())
     }
 
@@ -220,9 +216,6 @@ impl Store {
         if !wrong(Variant::CommitKeepsTotal) {
             self.settle_totals();
         }
-        if wrong(Variant::CommitConfirms) {
-            self.manager.clock.confirmed = self.manager.clock.lce;
-        }
         Ok(Closed { lce: self.manager.clock.lce, oldest: before.unwrap_or(oldest) })
     }
 
@@ -272,42 +265,15 @@ impl Store {
         Ok(self.manager.ro.count)
     }
 
-    /// Confirms that all up to an epoch is saved, from the present F to LCE; answers F. Here 0 is epoch 0.
-    pub fn confirm(&mut self, epoch: u64) -> Result<u64, Refusal> {
-        self.refuse_ill_formed()?;
-        let clock = &mut self.manager.clock;
-        let epoch = if epoch == 0 && wrong(Variant::ConfirmZeroMeansLce) { clock.lce } else { epoch };
-        let first = if wrong(Variant::ConfirmedMayFall) {
-            clock.lse
-        } else if wrong(Variant::ConfirmedMustRise) {
-            clock.confirmed + 1
-        } else {
-            clock.confirmed
-        };
-        let last = if wrong(Variant::ConfirmsOpenLoads) { clock.ec - 1 } else { clock.lce };
-        if epoch < first || last < epoch {
-            return Err(Refusal::OutOfRange);
-        }
-        if !wrong(Variant::ConfirmNotKept) {
-            clock.confirmed = epoch;
-        }
-        Ok(epoch)
-    }
-
     /// Moves LSE, 0 meaning as far as nothing holds it; answers LSE.
     pub fn move_lse(&mut self, target: u64) -> Result<u64, Refusal> {
         self.refuse_ill_formed()?;
         let Manager { clock, rw, ro, .. } = &mut self.manager;
-        let target = match target {
-            0 if wrong(Variant::ZeroMeansConfirmed) => clock.confirmed,
-            0 => greatest_free_target(clock, rw, ro),
-            _ => target,
-        };
-        let last = if wrong(Variant::UnconfirmedOutOfRange) { clock.confirmed } else { clock.lce };
-        if target < clock.lse || last < target {
+        let target = if target == 0 { greatest_free_target(clock, rw, ro) } else { target };
+        if !(clock.lse..=clock.lce).contains(&target) {
             return Err(Refusal::OutOfRange);
         }
-        if blocked(clock, rw, ro, target) {
+        if blocked(rw, ro, target) {
             return Err(Refusal::Blocked);
         }
         clock.lse = target;
@@ -401,9 +367,6 @@ impl Store {
         self.manager = Manager::starting_at(epoch + 1);
         if wrong(Variant::RecoverLseZero) {
             self.manager.clock.lse = 0;
-        }
-        if wrong(Variant::RecoverConfirmsNothing) {
-            self.manager.clock.confirmed = 0;
         }
         if wrong(Variant::RecoverKeepsTicket) {
             self.manager.ro.next = old.ro.next;

@@ -1,6 +1,5 @@
-//! Random well-formed stores that no history made, and stores spoilt in one field (01, *Sound*; 02, (iii), (vi)).
+//! Random well-formed stores that no history made, and stores spoilt in one field (01, *Sound*; 02, (iii)).
 
-use crate::clock::Clock;
 use crate::histories::fill_areas;
 use crate::partition::{entries_of, Entry, CLEARING, ROWS};
 use crate::random::Rng;
@@ -77,13 +76,6 @@ fn random_clock(store: &mut Store, rng: &mut Rng) {
         1 => clock.lce - rng.within(0, clock.lce.min(6)),
         2 => clock.lce - rng.within(0, clock.lce.min(60)),
         _ => rng.within(0, clock.lce),
-    };
-    clock.confirmed = match rng.below(8) {
-        0 => clock.lse,
-        1 => rng.within(clock.lse, clock.lce.min(clock.lse + 6)),
-        2 | 3 => rng.within(clock.lse, clock.lce),
-        4 => clock.lce.saturating_sub(1).max(clock.lse),
-        _ => clock.lce,
     };
 }
 
@@ -198,7 +190,7 @@ fn random_partition(store: &mut Store, p: usize, rng: &mut Rng) {
 /// (or one length, or swaps two totals) and answers whether the store had the place that it needs.
 pub type Spoil = (&'static str, &'static str, fn(&mut Store, &mut Rng) -> bool);
 
-pub const SPOILS: [Spoil; 57] = [
+pub const SPOILS: [Spoil; 53] = [
     ("lengths", "one row word less", |s, _| s.rows.pop().is_some()),
     ("lengths", "one row word more", |s, rng| {
         s.rows.push(rng.word());
@@ -241,27 +233,6 @@ pub const SPOILS: [Spoil; 57] = [
         let low = s.manager.clock.lce + 1;
         let lse = rng.pick(&[low, low + 1, u64::MAX]);
         put(&mut s.manager.clock.lse, lse)
-    }),
-    ("confirmed", "F below LSE", |s, rng| {
-        let lse = s.manager.clock.lse;
-        lse > 0 && {
-            let any = rng.below(lse);
-            let low = rng.pick(&[lse - 1, 0, any]);
-            put(&mut s.manager.clock.confirmed, low)
-        }
-    }),
-    ("confirmed", "F above LCE", |s, rng| {
-        let (low, ec) = (s.manager.clock.lce + 1, s.manager.clock.ec);
-        let high = rng.pick(&[low, low + 1, ec.max(low), u64::MAX]);
-        put(&mut s.manager.clock.confirmed, high)
-    }),
-    ("confirmed", "LSE above F", |s, rng| {
-        let Clock { lce, confirmed, .. } = s.manager.clock;
-        confirmed < lce && put(&mut s.manager.clock.lse, rng.within(confirmed + 1, lce))
-    }),
-    ("confirmed", "LCE below F", |s, rng| {
-        let Clock { lse, confirmed, .. } = s.manager.clock;
-        lse < confirmed && put(&mut s.manager.clock.lce, rng.within(lse, confirmed - 1))
     }),
     ("rw count", "too many loads", |s, rng| {
         let count = rng.pick(&[33, 34, 1 << 32, u64::MAX]);

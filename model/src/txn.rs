@@ -1,4 +1,4 @@
-//! Loads and pages, how they begin and end, and what holds LSE back (01, "The books"; 02, (vi)).
+//! Loads and pages, how they begin and end, and what holds LSE back (01, "The books").
 
 use crate::clock::Clock;
 use crate::variant::{wrong, Variant};
@@ -173,18 +173,8 @@ impl RoTable {
     }
 }
 
-/// *Held*: the target is above F, or a reader holds it.
-pub fn blocked(clock: &Clock, rw: &RwTable, ro: &RoTable, target: u64) -> bool {
-    let confirmed = if wrong(Variant::ConfirmedIsHeld) {
-        target < clock.confirmed || target == clock.lse
-    } else {
-        target <= clock.confirmed || wrong(Variant::UnconfirmedNotHeld)
-    };
-    !confirmed || blocked_by_readers(rw, ro, target)
-}
-
-/// An open page is below the target, or an open load has a dep at or below it.
-pub fn blocked_by_readers(rw: &RwTable, ro: &RoTable, target: u64) -> bool {
+/// *Held*: an open page is below the target, or an open load has a dep at or below it.
+pub fn blocked(rw: &RwTable, ro: &RoTable, target: u64) -> bool {
     for ro_txn in ro.used() {
         if ro_txn.epoch < target {
             return true;
@@ -207,12 +197,7 @@ pub fn greatest_free_target(clock: &Clock, rw: &RwTable, ro: &RoTable) -> u64 {
     let (mut free, mut most) = (clock.lse, clock.lce);
     while free < most {
         let middle = free + (most - free).div_ceil(2);
-        let held = if wrong(Variant::ZeroIgnoresConfirmed) {
-            blocked_by_readers(rw, ro, middle)
-        } else {
-            blocked(clock, rw, ro, middle)
-        };
-        if held {
+        if blocked(rw, ro, middle) {
             most = middle - 1;
         } else {
             free = middle;

@@ -1,5 +1,4 @@
-//! Wrong readings, one changed line each, for the tests (01, "Where hands go wrong", "Agreed"; 02, (i) to (iii), (v),
-//! (vi)).
+//! Wrong readings, one changed line each, for the tests (01, "Where hands go wrong", "Agreed"; 02, (i) to (iii), (v)).
 //!
 //! Outside this crate's own unit tests `wrong` is always false, so the store has none of them.
 
@@ -131,40 +130,10 @@ pub enum Variant {
     RecoverEntryForEmpty,
     /// A recovery sets the totals to 0.
     RecoverDropsTotals,
-    /// A target above F is not held.
-    UnconfirmedNotHeld,
-    /// A target at F is held, unless LSE is there.
-    ConfirmedIsHeld,
-    /// A target above F is out of range, and not held.
-    UnconfirmedOutOfRange,
-    /// Target 0 is the greatest that no reader holds, F or not.
-    ZeroIgnoresConfirmed,
-    /// Target 0 is F, which a reader may hold.
-    ZeroMeansConfirmed,
-    /// F may be set back, down to LSE.
-    ConfirmedMayFall,
-    /// A confirmation of the present F is refused.
-    ConfirmedMustRise,
-    /// F may be set above LCE, up to the last epoch given out.
-    ConfirmsOpenLoads,
-    /// A confirmation of 0 is one of LCE, as a page at 0 is one at LCE.
-    ConfirmZeroMeansLce,
-    /// A confirmation is acknowledged, and F stays.
-    ConfirmNotKept,
-    /// A save sets F.
-    SaveConfirms,
-    /// A commit sets F to LCE.
-    CommitConfirms,
-    /// Making new leaves F.
-    NewKeepsConfirmed,
-    /// A recovery sets F to 0.
-    RecoverConfirmsNothing,
-    /// A store with F outside LSE to LCE is sound.
-    SoundIgnoresConfirmed,
 }
 
 impl Variant {
-    pub const ALL: [Variant; 78] = [
+    pub const ALL: [Variant; 63] = [
         Variant::PageAppliesBelowOnly,
         Variant::RollbackKeepsLce,
         Variant::LseByOpenEpochs,
@@ -228,21 +197,6 @@ impl Variant {
         Variant::RecoverKeepsAreas,
         Variant::RecoverEntryForEmpty,
         Variant::RecoverDropsTotals,
-        Variant::UnconfirmedNotHeld,
-        Variant::ConfirmedIsHeld,
-        Variant::UnconfirmedOutOfRange,
-        Variant::ZeroIgnoresConfirmed,
-        Variant::ZeroMeansConfirmed,
-        Variant::ConfirmedMayFall,
-        Variant::ConfirmedMustRise,
-        Variant::ConfirmsOpenLoads,
-        Variant::ConfirmZeroMeansLce,
-        Variant::ConfirmNotKept,
-        Variant::SaveConfirms,
-        Variant::CommitConfirms,
-        Variant::NewKeepsConfirmed,
-        Variant::RecoverConfirmsNothing,
-        Variant::SoundIgnoresConfirmed,
     ];
 }
 

@@ -1,5 +1,4 @@
-//! Each wrong reading must be told from the right one (01, "Where hands go wrong" and "Agreed"; 02, (i) to (iii), (v),
-//! (vi)).
+//! Each wrong reading must be told from the right one (01, "Where hands go wrong" and "Agreed"; 02, (i) to (iii), (v)).
 
 use crate::cases::CASES;
 use crate::check::{run_history, Checks};
@@ -38,7 +37,7 @@ const SEEDS: u64 = 15;
 
 /// Wrong readings that keep every promise of the ledger and of *sound*: in a history only the second reading
 /// of each call tells them.
-const ONLY_BY_SECOND_READING: [Variant; 10] = [
+const ONLY_BY_SECOND_READING: [Variant; 7] = [
     Variant::TicketReused,
     Variant::PurgeKeepsOwnEpoch,
     Variant::PurgeSkipsTooMuch,
@@ -46,14 +45,7 @@ const ONLY_BY_SECOND_READING: [Variant; 10] = [
     Variant::RecoverLseZero,
     Variant::RecoverKeepsTicket,
     Variant::RecoverKeepsAreas,
-    Variant::ConfirmNotKept,
-    Variant::SaveConfirms,
-    Variant::CommitConfirms,
 ];
-
-/// Wrong readings of what *sound* is: no history leaves a store that they would take for sound, so that only a fixed
-/// case, which writes the words by hand, tells them.
-const ONLY_BY_CASES: [Variant; 1] = [Variant::SoundIgnoresConfirmed];
 
 #[test]
 fn the_right_reading_passes() {
@@ -68,10 +60,9 @@ fn each_wrong_reading_is_told() {
     for variant in Variant::ALL {
         choose(Some(variant));
         let cases = told_by_cases();
-        let unmet = ONLY_BY_CASES.contains(&variant);
-        let quiet = unmet || ONLY_BY_SECOND_READING.contains(&variant);
+        let quiet = ONLY_BY_SECOND_READING.contains(&variant);
         let ledger = told_by_histories(Checks { expect: false, ledger: true }, if quiet { 2 } else { SEEDS });
-        let all = told_by_histories(Checks::ALL, if unmet { 2 } else { SEEDS });
+        let all = told_by_histories(Checks::ALL, SEEDS);
         choose(None);
         println!("{variant:?}\n  cases: {cases:?}\n  ledger: {ledger:?}\n  all: {all:?}");
         if cases.is_none() {
@@ -80,8 +71,8 @@ fn each_wrong_reading_is_told() {
         if ledger.is_none() != quiet {
             untold.push(format!("{variant:?} by ledger and sound: {ledger:?}"));
         }
-        if all.is_none() != unmet {
-            untold.push(format!("{variant:?} by the histories: {all:?}"));
+        if all.is_none() {
+            untold.push(format!("{variant:?} by the histories"));
         }
     }
     assert!(untold.is_empty(), "{untold:#?}");
@@ -134,23 +125,6 @@ fn each_named_hand_is_told_by_its_own_case() {
         (Variant::RecoverKeepsAreas, "recovered: every word"),
         (Variant::RecoverEntryForEmpty, "recovered: every word"),
         (Variant::RecoverDropsTotals, "recovered: every word"),
-        (Variant::UnconfirmedNotHeld, "worked session"),
-        (Variant::UnconfirmedNotHeld, "confirmed: what is above is held"),
-        (Variant::ConfirmedIsHeld, "confirmed: what is above is held"),
-        (Variant::UnconfirmedOutOfRange, "confirmed: what is above is held"),
-        (Variant::ZeroIgnoresConfirmed, "worked session"),
-        (Variant::ZeroIgnoresConfirmed, "confirmed: as far as nothing holds"),
-        (Variant::ZeroMeansConfirmed, "confirmed: as far as nothing holds"),
-        (Variant::ConfirmedMayFall, "confirmed: from F to LCE"),
-        (Variant::ConfirmedMustRise, "confirmed: from F to LCE"),
-        (Variant::ConfirmsOpenLoads, "confirmed: beside loads"),
-        (Variant::ConfirmZeroMeansLce, "confirmed: from F to LCE"),
-        (Variant::ConfirmNotKept, "confirmed: from F to LCE"),
-        (Variant::SaveConfirms, "confirmed: not by a save"),
-        (Variant::CommitConfirms, "worked session"),
-        (Variant::NewKeepsConfirmed, "confirmed: at the start"),
-        (Variant::RecoverConfirmsNothing, "confirmed: at the start"),
-        (Variant::SoundIgnoresConfirmed, "confirmed: spoilt"),
     ] {
         let (_, case) = CASES.into_iter().find(|(name, _)| *name == named).expect("a case of that name");
         choose(Some(variant));

@@ -1,4 +1,4 @@
-//! Random histories with every check after every call, and what they must have met (01, the calls; 02, (v), (vi)).
+//! Random histories with every check after every call, and what they must have met (01, the calls; 02, (v)).
 
 use model::call::CALL_NAMES;
 use model::check::{run_history, run_lines, Checks, Coverage, Edge};
@@ -39,25 +39,6 @@ fn told(coverage: &Coverage) {
     }
 }
 
-/// Events that F may take away from histories that confirm too little or too much, each with how often it is to come in
-/// 300,000 calls.
-const OFTEN: [(Edge, u64); 9] = [
-    (Edge::PurgeRewritten, 2_000),
-    (Edge::PurgeRelabelled, 1_500),
-    (Edge::PurgeEmptiedEntry, 500),
-    (Edge::LseMoves, 1_500),
-    (Edge::LseToLce, 500),
-    (Edge::LseHeldByReadersAlone, 2_000),
-    (Edge::LseHeldByConfirmedAlone, 50),
-    (Edge::LseZeroStopsAtConfirmed, 50),
-    (Edge::ConfirmRaises, 3_000),
-];
-
-fn too_rare(coverage: &Coverage) -> Vec<(Edge, u64)> {
-    let met = OFTEN.into_iter().map(|(edge, least)| (edge, coverage.met(edge), least));
-    met.filter(|(_, met, least)| met < least).map(|(edge, met, _)| (edge, met)).collect()
-}
-
 #[test]
 fn three_hundred_thousand_calls() {
     let coverage = histories(300_000, 500, 1);
@@ -66,7 +47,6 @@ fn three_hundred_thousand_calls() {
     // Number 5 has no place in a history; the spoilt stores meet it.
     let missing = coverage.missing(&[5]);
     assert!(missing.is_empty(), "never met: {missing:#?}");
-    assert_eq!(too_rare(&coverage), [], "met too rarely");
 }
 
 #[test]
@@ -80,11 +60,7 @@ fn ten_million_calls() {
 
 #[test]
 fn random_lines() {
-    let mut coverage = Coverage::default();
     for profile in PROFILES {
-        coverage.add(&run_lines(7, profile, 1500).unwrap());
-    }
-    for edge in OFTEN.map(|(edge, _)| edge) {
-        assert!(coverage.met(edge) > 0, "{edge:?} has no line");
+        run_lines(7, profile, 1500).unwrap();
     }
 }

@@ -1,5 +1,4 @@
-//! The programs as they are run: the line program and the printer of random lines (01, "A session"; 02, (i), (ii),
-//! (vi)).
+//! The programs as they are run: the line program and the printer of random lines (01, "A session"; 02, (i), (ii)).
 
 use model::histories::PROFILES;
 use model::session::Session;
@@ -35,7 +34,7 @@ fn worked_session() {
     let input = "B\nA 1 0 10 11\nB\nA 2 0 20\nC 1\nR 0\nD 2 0\nS l2 0\nC 2\nS p1 0\nR 0\nS p2 0\nL 2\nE 1\n\
                  L 0\nP 0\nA 2 0 5\n";
     let output = "B 0 1\nA 0 2\nB 0 2\nA 0 3\nC 0 1 2\nR 0 1\nD 0 3\nS 0\nC 0 2 0\nS 0 10 11\nR 0 2\n\
-                  S 0\nL 10\nE 0 1\nL 0 0\nP 0 0\nA 2\n";
+                  S 0\nL 10\nE 0 1\nL 0 2\nP 0 1\nA 2\n";
     assert_eq!(String::from_utf8_lossy(&session(input.into())), output);
 }
 

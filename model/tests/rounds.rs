@@ -1,5 +1,4 @@
-//! Random files of rounds, cut after every byte, corrupt, and of any bytes; saves and recoveries of stores (02, (v),
-//! (vi)).
+//! Random files of rounds, cut after every byte, corrupt, and of any bytes; saves and recoveries of stores (02, (v)).
 
 use model::call::{number_of, Call, LENT_FILL};
 use model::check::{difference, Checked, Coverage};
@@ -27,8 +26,7 @@ fn recovered(before: &Store, round: Option<&Round>) -> Store {
     };
     let books = &mut store.manager;
     *books = Manager::starting_at(1);
-    (books.clock.ec, books.clock.lce) = (round.epoch + 1, round.epoch);
-    (books.clock.lse, books.clock.confirmed) = (round.epoch, round.epoch);
+    (books.clock.ec, books.clock.lce, books.clock.lse) = (round.epoch + 1, round.epoch, round.epoch);
     for (p, lot) in round.lots.iter().enumerate() {
         for (i, &row) in lot.iter().enumerate() {
             store.rows[512 * p + i] = row;

@@ -1,10 +1,9 @@
 //! A day at the planner's: two benches load their weighings into lots, an order page stays open through all of it,
-//! scrap is cleared, a load with a wrong scale is rolled back, and at night, when the day is saved, what nobody needs
-//! any more is purged. Beside the store the day keeps plain lists of what each reader ought to be shown; the first
-//! difference ends it with status 1. 01's words are used here: a lot is a partition, a load a read-write transaction, a
-//! page a read-only one.
+//! scrap is cleared, a load with a wrong scale is rolled back, and at night what nobody needs any more is purged.
+//! Beside the store the day keeps plain lists of what each reader ought to be shown; the first difference ends it
+//! with status 1. 01's words are used here: a lot is a partition, a load a read-write transaction, a page a read-only
+//! one.
 
-use nizgulk::limits::CHECKPOINT_MAX;
 use nizgulk::{Closed, Epoch, Reader, Refusal, Store};
 use std::error::Error;
 
@@ -131,13 +130,6 @@ fn main() -> Result<(), Box<dyn Error>> {
     let late = store.begin_ro(None)?;
     scan(&store, "the evening's page", late, &evening)?;
     weigh(&store, &evening)?;
-
-    // Before the day is saved and this is confirmed, LSE cannot move at all.
-    same("LSE", store.advance_lse(None)?, Epoch::new(0))?;
-    let mut file = vec![0; CHECKPOINT_MAX];
-    let length = store.save(store.lce(), &mut file)?;
-    same("F", store.confirm_flush(store.lce())?, store.lce())?;
-    println!("the day is saved up to load {} in {length} bytes, and confirmed", store.flushed());
 
     // While the order page is open, LSE cannot pass it, and the scrap stays.
     same("LSE", store.advance_lse(store.lce()), Err(Refusal::Blocked))?;

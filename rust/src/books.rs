@@ -21,11 +21,11 @@ macro_rules! layout {
 pub(crate) use layout;
 
 /// Bytes of the books.
-pub(crate) const BOOKS_BYTES: usize = 9_536;
+pub(crate) const BOOKS_BYTES: usize = 9_528;
 /// Bytes of an entry.
 pub(crate) const ENTRY_BYTES: usize = 24;
 
-/// The clock: four epochs.
+/// The clock: three epochs.
 #[repr(C)]
 #[derive(Clone, Copy, Debug, PartialEq, Eq)]
 pub struct Clock {
@@ -35,10 +35,8 @@ pub struct Clock {
     pub lce: u64,
     /// LSE, the latest safe epoch: what a purge works at.
     pub lse: u64,
-    /// The last epoch confirmed as saved (02: F): LSE cannot pass it.
-    pub flushed: u64,
 }
-layout!(Clock, 32, { ec: 0, lce: 8, lse: 16, flushed: 24 });
+layout!(Clock, 24, { ec: 0, lce: 8, lse: 16 });
 
 /// A read-write transaction (01: load).
 #[repr(C)]
@@ -112,11 +110,11 @@ pub struct Partitions {
 }
 layout!(Partitions, 200, { at: 0, spare: 192 });
 
-/// The books: the transaction manager's words, the partitions' and their totals (crate rules: `State`). 9,536 bytes.
+/// The books: the transaction manager's words, the partitions' and their totals (crate rules: `State`). 9,528 bytes.
 #[repr(C)]
 #[derive(Clone, Copy, Debug, PartialEq, Eq)]
 pub struct Books {
-    /// EC, LCE, LSE and F.
+    /// EC, LCE and LSE.
     pub clock: Clock,
     /// The read-write transactions (01: loads).
     pub writers: RwTxns,
@@ -130,12 +128,12 @@ pub struct Books {
     /// at LCE would show, added up. Books in which one differs from that sum are unsound.
     pub totals: [u64; PARTITIONS_MAX],
 }
-layout!(Books, BOOKS_BYTES, { clock: 0, writers: 32, deps: 808, readers: 8_744, partitions: 9_272, totals: 9_472 });
+layout!(Books, BOOKS_BYTES, { clock: 0, writers: 24, deps: 800, readers: 8_736, partitions: 9_264, totals: 9_464 });
 
 impl Books {
     /// Books whose words are all 0. They are unsound, so that every call but making new and recovery is refused by 5.
     pub const BLANK: Books = Books {
-        clock: Clock { ec: 0, lce: 0, lse: 0, flushed: 0 },
+        clock: Clock { ec: 0, lce: 0, lse: 0 },
         writers: RwTxns { at: [RwTxn { epoch: 0, waiting: 0, deps: 0 }; WRITERS_MAX], count: 0 },
         deps: [0; DEPS_ALL],
         readers: RoTxns { at: [RoTxn { ticket: 0, epoch: 0 }; READERS_MAX], count: 0, next: 0 },

@@ -62,7 +62,7 @@ pub use store::{Closed, Purged, Store};
 /// ```
 pub mod calls {
     pub use crate::raw::{
-        advance_lse, append, begin, begin_ro, clear, commit, confirm_flush, create, end_ro, purge, recover, roll_back,
-        save, scan_ro, scan_rw, Reply, Seen,
+        advance_lse, append, begin, begin_ro, clear, commit, create, end_ro, purge, recover, roll_back, save, scan_ro,
+        scan_rw, Reply, Seen,
     };
 }

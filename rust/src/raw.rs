@@ -24,7 +24,7 @@ pub struct Reply {
     /// How many rows that are; 0 of another call.
     pub count: usize,
 }
-layout!(Reply, 9_576, { books: 0, number: 9_536, value: 9_544, second: 9_552, from: 9_560, count: 9_568 });
+layout!(Reply, 9_568, { books: 0, number: 9_528, value: 9_536, second: 9_544, from: 9_552, count: 9_560 });
 
 /// The reply to a scan or a save, which leave the books as they were (crate exports: `Seen`).
 #[repr(C)]
@@ -139,14 +139,6 @@ extern "C" {
         rows: *const u64,
         rows_len: usize,
         target: u64,
-    ) -> Reply;
-    fn nizgulk_confirm_flush(
-        state: Books,
-        entries: *const Entry,
-        entries_len: usize,
-        rows: *const u64,
-        rows_len: usize,
-        epoch: u64,
     ) -> Reply;
     fn nizgulk_purge(
         state: Books,
@@ -274,20 +266,11 @@ pub fn scan_ro(books: &Books, entries: &[Entry], rows: &[u64], bitmap: &mut [u8]
     unsafe { nizgulk_scan_ro(*books, es, es_len, rs, rs_len, bitmap.as_mut_ptr(), bitmap.len(), ticket, partition) }
 }
 
-/// Moves LSE to a target, LSE to LCE; 0 means as far as it may go. Value: LSE. Above what is confirmed as saved (02: F)
-/// it is blocked (01: held). Refusals, in this order: 5, 4, 10.
+/// Moves LSE to a target, LSE to LCE; 0 means as far as it may go. Value: LSE. Refusals, in this order: 5, 4, 10.
 #[inline]
 pub fn advance_lse(books: &Books, entries: &[Entry], rows: &[u64], target: u64) -> Reply {
     // Safety: as said above.
     unsafe { nizgulk_advance_lse(*books, entries.as_ptr(), entries.len(), rows.as_ptr(), rows.len(), target) }
-}
-
-/// Confirms that all up to an epoch is saved, from what is confirmed already (02: F) to LCE; here 0 is epoch 0. Value:
-/// F. Refusals, in this order: 5, 4.
-#[inline]
-pub fn confirm_flush(books: &Books, entries: &[Entry], rows: &[u64], epoch: u64) -> Reply {
-    // Safety: as said above.
-    unsafe { nizgulk_confirm_flush(*books, entries.as_ptr(), entries.len(), rows.as_ptr(), rows.len(), epoch) }
 }
 
 /// Purges a partition at LSE. Value: 1 if it was rewritten, 0 if it was skipped; and the part of the rows that is in

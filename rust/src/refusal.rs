@@ -13,8 +13,8 @@ pub enum Refusal {
     NotOpen = 2,
     /// 3: the output is too short: the bitmap of a scan for the partition's rows, or that of a save for the rows shown.
     ShortOutput = 3,
-    /// 4: the starting epoch, a read-only transaction's epoch (01: page), LSE's target, the epoch to save or the epoch
-    /// to confirm is out of range.
+    /// 4: the starting epoch, a read-only transaction's epoch (01: page), LSE's target or the epoch to save is out of
+    /// range.
     OutOfRange = 4,
     /// 5: the words of the store do not fit together (01: unsound), or an area has a wrong length.
     Unsound = 5,
@@ -26,8 +26,7 @@ pub enum Refusal {
     RowsFull = 8,
     /// 9: an entry is needed and the partition has 64.
     EntriesFull = 9,
-    /// 10: LSE's target is not confirmed as saved (02: above F), or an open transaction still needs what is older (01:
-    /// held).
+    /// 10: an open transaction still needs what is older than LSE's target (01: held).
     Blocked = 10,
     /// 11: a table of contents of the file is one that no save writes there: more than 512 rows of a partition, an
     /// epoch above the last or below the one before, or epoch 0 and rows.
@@ -93,7 +92,7 @@ impl fmt::Display for Refusal {
             Refusal::TxnsFull => "32 transactions are open or waiting",
             Refusal::RowsFull => "the partition has not so many rows left",
             Refusal::EntriesFull => "the partition has no entry left",
-            Refusal::Blocked => "it is not confirmed as saved, or an open transaction needs what is older",
+            Refusal::Blocked => "an open transaction needs what is older",
             Refusal::Corrupt => "the file has a table of contents that no save wrote",
         };
         write!(f, "refused, {}: {why}", self.number())

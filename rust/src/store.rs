@@ -10,7 +10,7 @@ use core::fmt;
 
 /// A store: the books, and the areas of entries and of rows that the calls are lent. No heap, no global state.
 ///
-/// It has 60,224 bytes, and a call uses up to 50,048 bytes of stack, the books and the reply included (`tools/stack`,
+/// It has 60,216 bytes, and a call uses up to 49,984 bytes of stack, the books and the reply included (`tools/stack`,
 /// built for release). [`Store::new`] hands a store over by value, which a small stack may not bear. To place one
 /// elsewhere from the start:
 ///
@@ -78,7 +78,7 @@ impl Store {
     /// ```
     /// use nizgulk::{Epoch, Refusal, Store};
     /// let store = Store::new(Epoch::new(7))?;
-    /// assert_eq!([store.ec(), store.lce(), store.lse(), store.flushed()].map(Epoch::get), [7, 6, 6, 6]);
+    /// assert_eq!([store.ec(), store.lce(), store.lse()].map(Epoch::get), [7, 6, 6]);
     /// assert_eq!(Store::new(Epoch::new(0)), Err(Refusal::OutOfRange));
     /// # Ok::<(), Refusal>(())
     /// ```
@@ -103,7 +103,7 @@ impl Store {
     }
 
     /// Makes the store what the last whole checkpoint (02: round) of a file holds, whatever its words were: its rows
-    /// are those of a committed transaction, EC is one above the checkpoint's epoch, and LCE, LSE and F are at it; no
+    /// are those of a committed transaction, EC is one above the checkpoint's epoch, and LCE and LSE are at it; no
     /// transaction is open, and the next ticket is 1. Without a whole checkpoint it is made new at 1. The file may have
     /// been cut after whichever byte; then nothing may be appended to it any more, and another is begun, with a save at
     /// LCE. Refusal: 11.
@@ -305,8 +305,7 @@ impl Store {
     }
 
     /// Moves LSE to a target, LSE to LCE, or as far as it may go if none is named (or 0). Answers LSE. It is blocked
-    /// (01: held) above what is confirmed as saved ([`Store::confirm_flush`]), and while a transaction is open that
-    /// needs what is older. Refusals: 5, 4, 10.
+    /// (01: held) while a transaction is open that needs what is older. Refusals: 5, 4, 10.
     ///
     /// ```
     /// use nizgulk::{Epoch, Refusal, Store};
@@ -314,7 +313,6 @@ impl Store {
     /// let page = store.begin_ro(None)?;
     /// let load = store.begin()?;
     /// store.commit(load)?;
-    /// store.confirm_flush(load)?;
     /// assert_eq!(store.advance_lse(load), Err(Refusal::Blocked));
     /// store.end_ro(page)?;
     /// assert_eq!(store.advance_lse(load), Ok(load));
@@ -322,34 +320,6 @@ impl Store {
     /// ```
     pub fn advance_lse(&mut self, target: impl Into<Option<Epoch>>) -> Result<Epoch, Refusal> {
         let reply = raw::advance_lse(&self.books, &self.entries, &self.rows, target.into().map_or(0, Epoch::get));
-        self.keep(&reply).map(Epoch::new)
-    }
-
-    /// Confirms that all up to an epoch is saved, from what is confirmed already (02: F) to LCE. Answers F. LSE cannot
-    /// pass it, so that a purge leaves what no file has. A save does not confirm itself: it is for who has kept its
-    /// bytes to say so. Epoch 0 is meant here as it stands. Refusals: 5, 4.
-    ///
-    /// ```
-    /// use nizgulk::{limits::CHECKPOINT_MAX, Epoch, Refusal, Store};
-    /// let mut store = Store::new(Epoch::FIRST)?;
-    /// let load = store.begin()?;
-    /// store.append(load, 0, &[10])?;
-    /// store.commit(load)?;
-    /// let mut file = vec![0; CHECKPOINT_MAX];
-    /// let length = store.save(load, &mut file)?;
-    /// assert_eq!(store.advance_lse(load), Err(Refusal::Blocked));
-    /// assert_eq!(store.advance_lse(None), Ok(Epoch::new(0)));
-    /// // The file is kept; then this is said to the store.
-    /// file.truncate(length);
-    /// assert_eq!(store.confirm_flush(load), Ok(load));
-    /// assert_eq!(store.advance_lse(None), Ok(load));
-    /// // It never falls, and does not pass LCE.
-    /// assert_eq!(store.confirm_flush(Epoch::new(0)), Err(Refusal::OutOfRange));
-    /// assert_eq!(store.confirm_flush(Epoch::new(2)), Err(Refusal::OutOfRange));
-    /// # Ok::<(), Refusal>(())
-    /// ```
-    pub fn confirm_flush(&mut self, epoch: Epoch) -> Result<Epoch, Refusal> {
-        let reply = raw::confirm_flush(&self.books, &self.entries, &self.rows, epoch.get());
         self.keep(&reply).map(Epoch::new)
     }
 
@@ -365,7 +335,6 @@ impl Store {
     ///     store.append(load, 0, &rows)?;
     ///     store.commit(load)?;
     /// }
-    /// store.confirm_flush(store.lce())?;
     /// store.advance_lse(None)?;
     /// let purged = store.purge(0)?;
     /// assert_eq!((purged.rewritten, purged.rows), (true, &[20, 21][..]));
@@ -420,11 +389,6 @@ impl Store {
     /// LSE, the latest safe epoch.
     pub fn lse(&self) -> Epoch {
         Epoch::new(self.books.clock.lse)
-    }
-
-    /// F, the last epoch confirmed as saved.
-    pub fn flushed(&self) -> Epoch {
-        Epoch::new(self.books.clock.flushed)
     }
 
     /// How many rows a partition (01: lot) has, shown to anyone or not; none if there is no such partition.

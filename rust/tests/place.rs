@@ -22,7 +22,6 @@ fn a_day(store: &mut Store) -> Result<u64, Refusal> {
     store.roll_back(wrong)?;
     let sum = store.scan(page, 0)?.sum();
     store.end_ro(page)?;
-    store.confirm_flush(store.lce())?;
     store.advance_lse(None)?;
     store.purge(0)?;
     let mut out = [0; 40];

@@ -33,10 +33,7 @@ fn numbers_are_those_of_01_and_02() {
         assert_eq!((refusal.number(), Refusal::from_number(number)), (number, Some(refusal)));
     }
     assert_eq!([0, 12].map(Refusal::from_number), [None; 2]);
-    assert_eq!(
-        Refusal::Blocked.to_string(),
-        "refused, 10: it is not confirmed as saved, or an open transaction needs what is older"
-    );
+    assert_eq!(Refusal::Blocked.to_string(), "refused, 10: an open transaction needs what is older");
 }
 
 #[test]
@@ -99,17 +96,11 @@ fn out_of_range_is_4() {
     let above = Epoch::new(store.lce().get() + 1);
     refused(4, &mut store, |store| store.begin_ro(above));
     refused(4, &mut store, |store| store.advance_lse(above));
-    refused(4, &mut store, |store| store.confirm_flush(above));
-    refused(4, &mut store, |store| store.confirm_flush(Epoch::new(u64::MAX)));
-    // What is confirmed may be confirmed again, and never falls.
-    assert_eq!(store.confirm_flush(Epoch::new(0)), Ok(Epoch::new(0)));
-    assert_eq!([1, 1].map(|epoch| store.confirm_flush(Epoch::new(epoch))), [Ok(Epoch::new(1)); 2]);
-    refused(4, &mut store, |store| store.confirm_flush(Epoch::new(0)));
     // Out of range comes before an output that is too short.
     refused(4, &mut store, |store| store.save(above, &mut [0xa5; 0]));
     refused(4, &mut store, |store| store.save(Epoch::new(u64::MAX), &mut [0xa5; 99]));
     let (mut books, entries, rows) = store.into_parts();
-    (books.clock.lse, books.clock.flushed) = (1, 1);
+    books.clock.lse = 1;
     books.readers.at[0].epoch = 1;
     let mut store = Store::from_parts(books, entries, rows);
     assert!(store.save(Epoch::new(1), &mut [0xa5; 99]).is_ok());
@@ -121,13 +112,8 @@ fn unsound_is_5() {
     refused(5, &mut Store::blank(), Store::begin);
     let (store, load, page) = used();
     let (books, entries, rows) = store.into_parts();
-    let spoilt: [fn(&mut Books); 10] = [
+    let spoilt: [fn(&mut Books); 8] = [
         |books| books.clock.lce = books.clock.ec,
-        |books| books.clock.flushed = books.clock.lce + 1,
-        |books| {
-            books.clock.lse = 1;
-            books.readers.at[0].epoch = 1;
-        },
         |books| books.writers.at[0].waiting = 2,
         |books| books.deps[1] = u64::MAX,
         |books| books.readers.count = usize::MAX,
@@ -149,8 +135,6 @@ fn unsound_is_5() {
         refused(5, &mut store, |store| store.end_ro(page));
         refused(5, &mut store, |store| store.scan(page, 0).map(|scan| scan.len()));
         refused(5, &mut store, |store| store.advance_lse(None));
-        refused(5, &mut store, |store| store.confirm_flush(Epoch::new(1)));
-        refused(5, &mut store, |store| store.confirm_flush(Epoch::new(u64::MAX)));
         refused(5, &mut store, |store| store.purge(0).map(|purged| purged.rewritten));
         refused(5, &mut store, |store| store.save(Epoch::new(1), &mut [0xa5; 99]));
         refused(5, &mut store, |store| store.save(Epoch::new(u64::MAX), &mut []));
@@ -237,18 +221,9 @@ fn entries_full_is_9() {
 fn blocked_is_10() {
     let (mut store, load, page) = used();
     let lce = store.commit(load).unwrap().lce;
-    assert_eq!(store.confirm_flush(lce), Ok(lce));
     refused(10, &mut store, |store| store.advance_lse(lce));
     assert_eq!(store.end_ro(page), Ok(0));
     assert_eq!(store.advance_lse(lce), Ok(lce));
-    // Without a transaction that is open, what is not confirmed as saved holds it.
-    let next = store.begin().unwrap();
-    assert_eq!(store.commit(next).unwrap().lce, next);
-    refused(10, &mut store, |store| store.advance_lse(next));
-    assert_eq!((store.advance_lse(None), store.flushed()), (Ok(lce), lce));
-    refused(4, &mut store, |store| store.advance_lse(Epoch::new(next.get() + 1)));
-    assert_eq!(store.confirm_flush(next), Ok(next));
-    assert_eq!((store.advance_lse(next), store.lse()), (Ok(next), next));
 }
 
 /// A checkpoint of an epoch: so many rows of each partition, each row 7.
@@ -288,10 +263,7 @@ fn corrupt_is_11() {
     // These are at the edge, and accepted.
     for (epoch, counts) in [(0, [0; 8]), (9, [512; 8]), (LAST_EPOCH, one), (9, one)] {
         assert_eq!(store.recover(&[&checkpoint(epoch, [0; 8])[..], &checkpoint(epoch, counts)].concat()), Ok(()));
-        assert_eq!(
-            [store.ec(), store.lce(), store.lse(), store.flushed()].map(Epoch::get),
-            [epoch + 1, epoch, epoch, epoch]
-        );
+        assert_eq!([store.ec(), store.lce(), store.lse()].map(Epoch::get), [epoch + 1, epoch, epoch]);
         assert_eq!(store.row_count(3), Some(usize::from(counts[3])));
     }
 }

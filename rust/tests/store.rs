@@ -1,6 +1,5 @@
 //! What the crate adds to the calls: the load that a close names, the iterator over rows shown, what a load is shown
-//! that clears, purge's part, what a purge leaves that is not confirmed, the totals, saves and recovery, a store's
-//! words, and where it may lie.
+//! that clears, purge's part, the totals, saves and recovery, a store's words, and where it may lie.
 
 use nizgulk::calls;
 use nizgulk::limits::{CHECKPOINT_MAX, CONTENTS_BYTES, ROWS_MAX, STORE_WORDS};
@@ -119,20 +118,13 @@ fn a_load_that_reloads_is_shown_what_it_loaded_after() {
     assert!(store.scan(page, 0).unwrap().eq([10, 11]));
 }
 
-/// Confirms all that is committed as saved, and moves LSE as far as it may go, which is there.
-fn confirm_and_advance(store: &mut Store) {
-    let lce = store.lce();
-    assert_eq!(store.confirm_flush(lce), Ok(lce));
-    assert_eq!(store.advance_lse(None), Ok(lce));
-}
-
 #[test]
 fn a_purge_answers_with_the_rows_in_force() {
     let (mut store, second, rows) = striped(&[5, 13]);
     let before = store.row_count(5);
     store.roll_back(second).unwrap();
     assert_eq!((before, store.row_count(5)), (Some(ROWS_MAX), Some(rows.len())));
-    confirm_and_advance(&mut store);
+    store.advance_lse(None).unwrap();
     // All rows are of the epoch that LSE is at: nothing is to do, and the part is where it was.
     let purged = store.purge(5).unwrap();
     assert_eq!((purged.rewritten, purged.rows), (false, rows.as_slice()));
@@ -140,38 +132,11 @@ fn a_purge_answers_with_the_rows_in_force() {
     store.clear(load, 5).unwrap();
     store.append(load, 5, &[7]).unwrap();
     store.commit(load).unwrap();
-    confirm_and_advance(&mut store);
+    store.advance_lse(None).unwrap();
     let purged = store.purge(5).unwrap();
     assert_eq!((purged.rewritten, purged.rows), (true, &[7][..]));
     let purged = store.purge(4).unwrap();
     assert_eq!((purged.rewritten, purged.rows), (false, &[][..]));
-}
-
-#[test]
-fn a_purge_leaves_what_is_not_confirmed_as_saved() {
-    let mut store = Store::new(Epoch::FIRST).unwrap();
-    let loads = [10, 20, 30].map(|row| {
-        let load = store.begin().unwrap();
-        store.clear(load, 0).unwrap();
-        store.append(load, 0, &[row]).unwrap();
-        assert_eq!(store.commit(load).unwrap().lce, load);
-        load
-    });
-    // A save by itself confirms nothing.
-    let mut out = [0; 32];
-    assert_eq!(store.save(loads[2], &mut out), Ok(32));
-    assert_eq!((store.advance_lse(None), store.flushed()), (Ok(Epoch::new(0)), Epoch::new(0)));
-    let purged = store.purge(0).unwrap();
-    assert_eq!((purged.rewritten, purged.rows), (false, &[10, 20, 30][..]));
-    // Confirmed up to the second, only the first's row is gone: the third's clearing is above LSE.
-    assert_eq!(store.confirm_flush(loads[1]), Ok(loads[1]));
-    assert_eq!((store.advance_lse(loads[2]), store.advance_lse(None)), (Err(Refusal::Blocked), Ok(loads[1])));
-    let purged = store.purge(0).unwrap();
-    assert_eq!((purged.rewritten, purged.rows), (true, &[20, 30][..]));
-    confirm_and_advance(&mut store);
-    assert_eq!(store.purge(0).unwrap().rows, [30]);
-    store.recover(&out).unwrap();
-    assert_eq!((store.flushed(), store.lse()), (loads[2], loads[2]));
 }
 
 /// The total of partition 3, and what a page begun now is shown of it, added up.
@@ -201,7 +166,7 @@ fn a_total_is_what_a_page_at_lce_would_show() {
     assert_eq!(total(&mut store), 5 + 4_294_967_295);
     store.commit(third).unwrap();
     assert_eq!(total(&mut store), 7);
-    confirm_and_advance(&mut store);
+    store.advance_lse(None).unwrap();
     assert!(store.purge(3).unwrap().rewritten);
     assert_eq!(total(&mut store), 7);
     let fourth = store.begin().unwrap();
@@ -283,7 +248,7 @@ fn a_recovered_store_goes_on() {
     store.append(load, 7, &[5]).unwrap();
     store.clear(load, 0).unwrap();
     store.commit(load).unwrap();
-    confirm_and_advance(&mut store);
+    store.advance_lse(None).unwrap();
     assert!(store.purge(0).unwrap().rows.is_empty());
     let mut now = rows[1].clone();
     now[0].clear();
@@ -335,10 +300,10 @@ fn words_lie_in_order() {
         *word = at as u64;
     }
     let store = Store::in_words(&mut words);
-    assert_eq!([store.ec(), store.lce(), store.lse(), store.flushed()].map(Epoch::get), [0, 1, 2, 3]);
-    assert_eq!(store.books().partitions.spare, 9_472 / 8 - 1);
-    assert_eq!([0, 7, 8].map(|lot| store.total(lot)), [Some(9_472 / 8), Some(9_536 / 8 - 1), None]);
-    assert_eq!(store.entries()[0].epoch, 9_536 / 8);
+    assert_eq!([store.ec(), store.lce(), store.lse()].map(Epoch::get), [0, 1, 2]);
+    assert_eq!(store.books().partitions.spare, 9_464 / 8 - 1);
+    assert_eq!([0, 7, 8].map(|lot| store.total(lot)), [Some(9_464 / 8), Some(9_528 / 8 - 1), None]);
+    assert_eq!(store.entries()[0].epoch, 9_528 / 8);
     assert_eq!(store.rows()[ROWS_MAX * 9 - 1], STORE_WORDS as u64 - 1);
     assert!(store.words().iter().copied().eq(0..STORE_WORDS as u64));
 }

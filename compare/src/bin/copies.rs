@@ -28,7 +28,6 @@ fn main() {
         ("scan by a load", scan(Reader::Rw(5))),
         ("scan by a page", scan(Reader::Ro(1))),
         ("move LSE", Call::MoveLse { target: 0 }),
-        ("confirm", Call::Confirm { epoch: 4 }),
         ("purge", Call::Purge { partition: 0 }),
         ("save", Call::Save { epoch: 4, lent: 24 }),
         ("recover", Call::Recover { file: store.round_at(4).bytes() }),

@@ -3,7 +3,7 @@
 //! one field, and on areas of wrong lengths. Compared are the number, the values, the part that a purge answers with,
 //! and every word of the books, the areas and the bitmap or output at the end of each call.
 
-use compare::{by_library, live_part, numbers, obeys_own_clearing, told, Confirmed, Rounds, Totals};
+use compare::{by_library, live_part, numbers, obeys_own_clearing, told, Rounds, Totals};
 use model::call::Call;
 use model::check::{difference, NUMBERS};
 use model::histories::{Calls, PROFILES};
@@ -20,8 +20,8 @@ const ROUNDS: u64 = 20_000;
 const CALLS: u64 = 12;
 
 /// How often each number was answered, how many rows the parts had that purges answered with, how many commits and
-/// rollbacks named a load, from how many scans by a load its own clearing hid rows, and what was met of totals, of
-/// rounds and of F.
+/// rollbacks named a load, from how many scans by a load its own clearing hid rows, and what was met of totals and of
+/// rounds.
 #[derive(Default)]
 struct Tally {
     numbers: [u64; NUMBERS],
@@ -30,7 +30,6 @@ struct Tally {
     own_clearings: u64,
     totals: Totals,
     rounds: Rounds,
-    confirmed: Confirmed,
 }
 
 /// Runs one call on both, and says where they differ.
@@ -49,7 +48,6 @@ fn differs(one: &Call, store: &mut Store, tally: &mut Tally) -> Result<(), Strin
     }
     tally.own_clearings += u64::from(reply.number == 0 && obeys_own_clearing(one, store));
     tally.totals.note(one, &before, &store.manager);
-    tally.confirmed.note(one, (expected.0, expected.1), &before, &store.manager);
     if expected.0 == 0 {
         tally.rounds.note(one, expected.1, &store.manager);
     }
@@ -119,11 +117,10 @@ fn main() -> ExitCode {
         println!("no call was answered {number}: the comparison is too weak");
         return ExitCode::FAILURE;
     }
-    let Tally { numbers, part_rows, named, own_clearings, totals, rounds: saved, confirmed } = tally;
+    let Tally { numbers, part_rows, named, own_clearings, totals, rounds: saved } = tally;
     let met = format!("{part_rows} rows in parts, {named} loads named, {own_clearings} scans with own clearings");
-    let met = format!("{met}; {totals}; {saved}; {confirmed}");
-    let few = [part_rows as u64, named, own_clearings].contains(&0);
-    if few || totals.is_weak() || saved.is_weak() || confirmed.is_weak() {
+    let met = format!("{met}; {totals}; {saved}");
+    if part_rows == 0 || named == 0 || own_clearings == 0 || totals.is_weak() || saved.is_weak() {
         println!("{met}: the comparison is too weak");
         return ExitCode::FAILURE;
     }

@@ -2,7 +2,7 @@
 //! Compared are the number, the values, the rows that a scan hands out, the part that a purge does, every byte of the
 //! output of a save, and every word of the store at the end of each call.
 
-use compare::{books_of, live_part, numbers, obeys_own_clearing, Areas, Confirmed, Rounds, Totals};
+use compare::{books_of, live_part, numbers, obeys_own_clearing, Areas, Rounds, Totals};
 use model::call::{Answer, Call};
 use model::check::NUMBERS;
 use model::histories::{Calls, PROFILES};
@@ -42,7 +42,6 @@ fn typed(one: &Call, store: &mut nizgulk::Store, output: &mut [u8]) -> Result<To
         Call::Close { ticket } => store.end_ro(Ticket::new(*ticket))? as u64,
         Call::MoveLse { target: 0 } => store.advance_lse(None)?.get(),
         Call::MoveLse { target } => store.advance_lse(Epoch::new(*target))?.get(),
-        Call::Confirm { epoch } => store.confirm_flush(Epoch::new(*epoch))?.get(),
         Call::Purge { partition } => {
             let purged = store.purge(*partition)?;
             return Ok(((u64::from(purged.rewritten), 0), purged.rows.to_vec()));
@@ -92,7 +91,7 @@ fn typed_of(store: &Store) -> Option<nizgulk::Store> {
 }
 
 /// How often each number was answered, how many rows scans and purges handed out, how many commits and rollbacks named
-/// a load, from how many scans by a load its own clearing hid rows, and what was met of totals, of rounds and of F.
+/// a load, from how many scans by a load its own clearing hid rows, and what was met of totals and of rounds.
 #[derive(Default)]
 struct Tally {
     numbers: [u64; NUMBERS],
@@ -102,7 +101,6 @@ struct Tally {
     own_clearings: u64,
     totals: Totals,
     rounds: Rounds,
-    confirmed: Confirmed,
 }
 
 /// Runs one call on both, and says where they differ.
@@ -112,8 +110,6 @@ fn differs(one: &Call, proved: &mut nizgulk::Store, store: &mut Store, tally: &m
     let before = store.manager;
     let ought = expected(one, store, &mut ought_output);
     tally.totals.note(one, &before, &store.manager);
-    let (number, value) = ought.as_ref().map_or_else(|number| (*number, 0), |((value, _), _)| (0, *value));
-    tally.confirmed.note(one, (number, value), &before, &store.manager);
     if told != ought {
         return Err(format!("answers {told:?}, and the model {ought:?}"));
     }
@@ -166,12 +162,10 @@ fn main() -> ExitCode {
         println!("by number {:?}: the comparison is too weak", tally.numbers);
         return ExitCode::FAILURE;
     }
-    let Tally { numbers, scanned, purged, named, own_clearings, totals, rounds: saved, confirmed } = tally;
+    let Tally { numbers, scanned, purged, named, own_clearings, totals, rounds: saved } = tally;
     let rows = format!("{scanned} rows scanned, {purged} in parts");
-    let met = format!("{rows}, {named} loads named, {own_clearings} scans with own clearings");
-    let met = format!("{met}; {totals}; {saved}; {confirmed}");
-    let few = [scanned as u64, purged as u64, named, own_clearings].contains(&0);
-    if few || totals.is_weak() || saved.is_weak() || confirmed.is_weak() {
+    let met = format!("{rows}, {named} loads named, {own_clearings} scans with own clearings; {totals}; {saved}");
+    if scanned == 0 || purged == 0 || named == 0 || own_clearings == 0 || totals.is_weak() || saved.is_weak() {
         println!("{met}: the comparison is too weak");
         return ExitCode::FAILURE;
     }

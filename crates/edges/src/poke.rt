@@ -42,9 +42,6 @@ fn clock(c: Clock, field: u64, value: u64) -> Clock {
         1 => {
             d.lce = value;
         }
-        7 => {
-            d.flushed = value;
-        }
         _ => {
             d.lse = value;
         }
@@ -123,7 +120,7 @@ fn readers(r: RoTxns, field: u64, value: u64) -> RoTxns {
 // A word of the transaction manager.
 fn manager(state: State, field: u64, value: u64) -> State {
     let mut n = state;
-    if field < 3 || field == 7 {
+    if field < 3 {
         let c = clock(n.clock, field, value);
         n.clock = c;
         return n;

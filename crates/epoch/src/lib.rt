@@ -78,10 +78,7 @@ pub fn clock_ok(c: Clock) -> bool
     if c.ec <= c.lce {
         return false;
     }
-    if c.lce < c.flushed {
-        return false;
-    }
-    c.lse <= c.flushed
+    c.lse <= c.lce
 }
 
 // What the clock hands out, and the clock after it.

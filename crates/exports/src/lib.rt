@@ -2,7 +2,7 @@
 // call of crate store or recovery by that name, and then its answer in words (D43).
 ghost use Rattle.std.specs.Prelude.{◌≡◌};
 ghost use Rattle.rules.specs.Step.{step, append, clear, rollback, create, scan, purge, save, recover};
-ghost use Rattle.rules.specs.Step.{begin, commit, begin_ro, end_ro, advance_lse, confirm_flush};
+ghost use Rattle.rules.specs.Step.{begin, commit, begin_ro, end_ro, advance_lse};
 ghost use Rattle.rules.specs.declared.Reader.TheVariants.{Rw, Ro};
 ghost use Rattle.store.specs.Kept.{store_of};
 ghost use Rattle.exports.specs.Words.{Replies, Purges, Shows};
@@ -173,21 +173,6 @@ pub extern "C" fn nizgulk_advance_lse(
         result rows.now entries.now }
 {
     let k = store::advance_lse(state, entries, rows, target);
-    reply_to(k)
-}
-
-// All epochs up to this one are saved (02 (vi): F); 0 is epoch 0. Refusals, in this order: 5, 4.
-#[unsafe(no_mangle)]
-pub extern "C" fn nizgulk_confirm_flush(
-    state: State,
-    entries: &[Entry],
-    rows: &[u64],
-    epoch: u64,
-) -> Replied
-    ensures { Replies (step (confirm_flush epoch) (store_of state rows.now entries.now))
-        result rows.now entries.now }
-{
-    let k = store::confirm_flush(state, entries, rows, epoch);
     reply_to(k)
 }
 

@@ -1,7 +1,6 @@
 pub mod Laws
 pub mod History
 pub mod Promises
-pub mod Flushed
 pub mod Totals
 pub mod Cuts
 pub mod Saving

@@ -28,7 +28,7 @@ use Rattle.rules.specs.Totals.{kept_total, shown_now, HistoryTotals, TotalsFresh
 use Rattle.rules.specs.declared.ManagerCall.{ManagerCall}
 use Rattle.laws.proofs.Laws.Hides.{shown-lines}
 use Rattle.laws.proofs.Laws.Lines.{shows_ext}
-use Rattle.laws.proofs.Laws.Manager.{lse-low, manager-facts}
+use Rattle.laws.proofs.Laws.Manager.{manager-facts}
 use Rattle.laws.proofs.Laws.ManagerCalls.{lce-stays}
 use Rattle.laws.proofs.Laws.PartitionFollows.{follows-shown}
 use Rattle.laws.proofs.Laws.Totals.{SoundOk, sound-facts, total_kept, total-still}
@@ -53,7 +53,7 @@ module _ {st : Store} {g : Ledger} (F : Follows st g) where
       ∙ snapshot-marks F.tracks lce (omega arith) j)
 
   low : (j : ℕ) → j ≤ (manager_of st).clock.lse → leb j lce ≡ true
-  low j h = let k = lse-low (manager-facts (manager_of st) F.ok.shape.manager).clock in le-leb j lce (omega arith)
+  low j h = let k = (manager-facts (manager_of st) F.ok.shape.manager).clock.lse-low in le-leb j lce (omega arith)
 
   shown-now : (t p : ℕ) → shown_now t p g ≡ shows_by now (lines_at p g)
   unfolding reader_shows

@@ -6,7 +6,7 @@
 -- Assumes nothing.
 use Rattle.std.specs.Prelude.{Bool, ◌&&◌, cond, List, [], ◌∷◌, ℕ, suc, ◌*◌, length, take, get_or, eqb}
 use Rattle.lists.specs.Lists.{all_of, pad, part}
-use Rattle.rules.specs.Manager.{manager_in, with_lce}
+use Rattle.rules.specs.Manager.{manager_in}
 use Rattle.rules.specs.Limits.{writers_max, rows_max, entries_max, areas_max}
 use Rattle.rules.specs.Span.{Span, spans}
 use Rattle.rules.specs.Weight.{total}
@@ -29,7 +29,7 @@ fills lo hi (x ∷ xs) = eqb (suc lo) x && fills x hi xs
 
 -- where each epoch between LCE and EC has a record, no epoch need be looked up
 unfoldable pub raised : Clock → List ℕ → Clock
-raised c js = cond (fills c.lce c.ec js) (with_lce c.ec c) c
+raised c js = cond (fills c.lce c.ec js) (record { ec = c.ec; lce = c.ec; lse = c.lse }) c
 
 -- where the epochs above LCE up to high land, but for one that is gone
 abbrev pub asked_for : Clock → RwTxns → Partitions → List ℕ → ℕ → ℕ → Asked

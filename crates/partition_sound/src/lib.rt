@@ -101,7 +101,6 @@ fn raise(c: Clock, epochs: &[u64]) -> Clock
         ec: c.ec,
         lce: c.ec,
         lse: c.lse,
-        flushed: c.flushed,
     }
 }
 

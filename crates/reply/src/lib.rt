@@ -77,7 +77,6 @@ pub fn reply_of(answer: Answer) -> ReplyWords
         Answer::EndedRo { left } => one(left as u64),
         Answer::Scanned { rows, ones } => two(rows as u64, ones as u64),
         Answer::AdvancedLse { lse } => one(lse),
-        Answer::ConfirmedFlush { flushed } => one(flushed),
         Answer::Rewritten { rows: _ } => one(1),
         Answer::Skipped { rows: _ } => one(0),
         Answer::Saved { bytes } => one(bytes as u64),

@@ -4,7 +4,7 @@ use mathlib.Core.Path.{◌≡◌}
 use mathlib.Core.List.{List, [], ◌∷◌, ◌++◌, map}
 use Prim.Native.Nat.{ℕ}
 use lib.ListN.{replicate}
-use Rattle.rules.specs.Step.{Call, begin, append, clear, commit, begin_ro, advance_lse, confirm_flush, purge, run}
+use Rattle.rules.specs.Step.{Call, begin, append, clear, commit, begin_ro, advance_lse, purge, run}
 use Rattle.rules.specs.Store.{Store}
 use Rattle.rules.specs.declared.Reader.TheVariants.{Ro}
 use Rattle.rules.proofs.Look.{made, Look, lines_of, bits_to, entries_in, Case, observed, alike, agree}
@@ -33,9 +33,9 @@ from st cs l e = record { start = st; calls = cs; look = l; expected = e }
 snapshot_at : ℕ → Store → List ℕ → Case
 snapshot_at e st bits = from st (begin_ro e ∷ []) (bits_to (Ro 1) 0) (bits ∷ [])
 
--- the entries (epoch, end, mark) after a purge at l, which is confirmed as saved first (02 (vi))
+-- the entries (epoch, end, mark) after a purge at l
 purged_at : ℕ → Store → List (List ℕ) → Case
-purged_at l st es = from st (confirm_flush l ∷ advance_lse l ∷ purge 0 ∷ []) (entries_in 0) es
+purged_at l st es = from st (advance_lse l ∷ purge 0 ∷ []) (entries_in 0) es
 
 pub cases : List Case
 cases =
@@ -57,9 +57,8 @@ cases =
     -- 11 (004, table I): LCE 1, 1, 3; the oldest open one 2, 2, none
     ∷ from (made 1) (begin ∷ begin ∷ begin ∷ []) (lines_of (commit 1 ∷ commit 3 ∷ commit 2 ∷ []))
     ((0 ∷ 1 ∷ 2 ∷ []) ∷ (0 ∷ 1 ∷ 2 ∷ []) ∷ (0 ∷ 3 ∷ 0 ∷ []) ∷ [])
-    -- 12: target 1 is held while 2 is open, though it is saved
-    ∷ from (made 1) (begin ∷ begin ∷ commit 1 ∷ confirm_flush 1 ∷ [])
-    (lines_of (advance_lse 1 ∷ commit 2 ∷ advance_lse 1 ∷ []))
+    -- 12: target 1 is held while 2 is open
+    ∷ from (made 1) (begin ∷ begin ∷ commit 1 ∷ []) (lines_of (advance_lse 1 ∷ commit 2 ∷ advance_lse 1 ∷ []))
     ((10 ∷ []) ∷ (0 ∷ 2 ∷ 0 ∷ []) ∷ (0 ∷ 1 ∷ []) ∷ [])
     ∷ []
 

@@ -8,12 +8,11 @@ use Prim.Native.Nat.{ℕ, zero, suc, ◌-◌, ◌%◌}
 use lib.ListN.{replicate, set}
 use Rattle.lists.specs.Lists.{over}
 use Rattle.rules.specs.Limits.{last_epoch, last_ticket}
-use Rattle.rules.specs.Manager.{Writer, writer, readers_of, with_clock, with_ec, with_lse, with_flushed}
-use Rattle.rules.specs.Manager.{with_writers, with_readers}
+use Rattle.rules.specs.Manager.{Writer, writer, readers_of, with_clock, with_ec, with_lse, with_writers, with_readers}
 use Rattle.rules.specs.Span.{Span, words_of, entries_of}
 use Rattle.rules.specs.Store.{Store, manager_of, state_of, with_manager, with_totals, laid, laid_in_place}
 use Rattle.rules.specs.Step.{Call, create, begin, append, clear, commit, rollback, begin_ro, end_ro, scan}
-use Rattle.rules.specs.Step.{advance_lse, confirm_flush, purge, save, recover, run}
+use Rattle.rules.specs.Step.{advance_lse, purge, run}
 use Rattle.rules.specs.declared.Reader.{Reader}
 use Rattle.rules.specs.declared.Reader.TheVariants.{Rw, Ro}
 use Rattle.rules.proofs.Look.{made, Look, lines_of, bytes_to, entries_in}
@@ -35,7 +34,7 @@ case st cs l e = record { start = st; calls = cs; look = l; expected = e }
 look : Reader → Call
 look r = scan r 0 (replicate 64 0)
 
--- ---- 01 "A session"; by 02 (vi) nothing is saved there, so that LSE stays at 0 and there is nothing to purge
+-- ---- 01 "A session"
 
 session : List Call
 session =
@@ -48,7 +47,7 @@ pub session_case : Case
 session_case =
     case (made 1) [] (lines_of session)
     (ok 1 ∷ ok 2 ∷ ok 2 ∷ ok 3 ∷ closed 1 2 ∷ ok 1 ∷ ok 3 ∷ only 0 ∷ closed 2 0
-    ∷ (0 ∷ 10 ∷ 11 ∷ []) ∷ ok 2 ∷ only 0 ∷ only 10 ∷ ok 1 ∷ ok 0 ∷ ok 0 ∷ only 2 ∷ [])
+    ∷ (0 ∷ 10 ∷ 11 ∷ []) ∷ ok 2 ∷ only 0 ∷ only 10 ∷ ok 1 ∷ ok 2 ∷ ok 1 ∷ only 2 ∷ [])
 
 pub session-holds : observed session_case ≡ session_case.expected
 unfolding observed session_case session case look closed ok only
@@ -85,10 +84,6 @@ totals_spoilt ts = with_totals (over 0 ts weighed.state.totals) weighed
 
 totals : ℕ → List ℕ
 totals n = n ∷ replicate 7 0
-
--- 02 (vi): F overwritten
-flushed_to : ℕ → Store → Store
-flushed_to e st = with_manager (with_clock (with_flushed e (manager_of st).clock) (manager_of st)) st
 
 pub edges : List Case
 edges =
@@ -136,16 +131,14 @@ edges =
     (only 0 ∷ ok 2 ∷ (0 ∷ 6 ∷ []) ∷ (0 ∷ 5 ∷ []) ∷ (0 ∷ 5 ∷ []) ∷ [])
     -- 01 "Where hands go wrong", first: 1 open, 2 committed, 3 begun, 1 committed; LSE stays below 1 while 3
     -- is open
-    ∷ case (made 1) (begin ∷ begin ∷ append 1 0 (1 ∷ []) ∷ append 2 0 (2 ∷ []) ∷ commit 2 ∷ begin ∷ commit 1
-    ∷ confirm_flush 2 ∷ [])
+    ∷ case (made 1) (begin ∷ begin ∷ append 1 0 (1 ∷ []) ∷ append 2 0 (2 ∷ []) ∷ commit 2 ∷ begin ∷ commit 1 ∷ [])
     (lines_of (advance_lse 2 ∷ advance_lse 1 ∷ advance_lse 0 ∷ purge 0 ∷ look (Rw 3) ∷ []))
     (only 10 ∷ only 10 ∷ ok 0 ∷ ok 0 ∷ (0 ∷ 2 ∷ []) ∷ [])
     -- a delete whose end lies above the end before it: the row between is of its epoch and stands before it
     ∷ case gap [] (lines_of (look (Ro 1) ∷ begin_ro 2 ∷ look (Ro 2) ∷ [])) ((0 ∷ 77 ∷ 77 ∷ []) ∷ ok 2 ∷ only 0 ∷ [])
-    ∷ case gap (end_ro 1 ∷ confirm_flush 1 ∷ advance_lse 1 ∷ purge 0 ∷ []) (entries_in 0)
-    ((1 ∷ 2 ∷ 0 ∷ []) ∷ (2 ∷ 3 ∷ 1 ∷ []) ∷ [])
-    ∷ case gap (end_ro 1 ∷ confirm_flush 2 ∷ advance_lse 2 ∷ []) (lines_of (purge 0 ∷ begin_ro 0 ∷ look (Ro 2) ∷ []))
-    (ok 1 ∷ ok 2 ∷ only 0 ∷ [])
+    ∷ case gap (end_ro 1 ∷ advance_lse 1 ∷ purge 0 ∷ []) (entries_in 0) ((1 ∷ 2 ∷ 0 ∷ []) ∷ (2 ∷ 3 ∷ 1 ∷ []) ∷ [])
+    ∷ case gap (end_ro 1 ∷ advance_lse 2 ∷ []) (lines_of (purge 0 ∷ begin_ro 0 ∷ look (Ro 2) ∷ [])) (ok 1 ∷ ok 2 ∷ only
+    0 ∷ [])
     -- 02 (iii): a row's low 32 bits are milligrams; an open transaction's rows, and hidden ones, are not in the total
     ∷ case weighed [] totals_left (totals 12 ∷ [])
     ∷ case (made 1) (begin ∷ append 1 0 (replicate 512 18446744073709551615) ∷ commit 1 ∷ []) totals_left
@@ -158,7 +151,7 @@ edges =
     ∷ case (made 1) (begin ∷ append 1 0 (4 ∷ []) ∷ commit 1 ∷ begin ∷ clear 2 0 ∷ append 2 0 (6 ∷ []) ∷ []) totals_left
     (totals 4 ∷ [])
     ∷ case (made 1) (begin ∷ append 1 0 (4 ∷ []) ∷ commit 1 ∷ begin ∷ clear 2 0 ∷ append 2 0 (6 ∷ []) ∷ commit 2
-    ∷ confirm_flush 2 ∷ advance_lse 0 ∷ purge 0 ∷ []) totals_left (totals 6 ∷ [])
+    ∷ advance_lse 0 ∷ purge 0 ∷ []) totals_left (totals 6 ∷ [])
     -- a total that is not the sum is unsound, so a shown row whose low bits are others; high bits, a row of an open
     -- transaction, a hidden one, one behind the rows in use, and two shown rows swapped are not
     ∷ case (totals_spoilt (13 ∷ [])) [] (lines_of (begin ∷ [])) (only 5 ∷ [])
@@ -169,26 +162,10 @@ edges =
     ∷ case (rows_spoilt 512 (8 ∷ [])) [] (lines_of (begin ∷ [])) (ok 3 ∷ [])
     -- a ticket is not used again
     ∷ case (made 1) (begin_ro 0 ∷ end_ro 1 ∷ []) (lines_of (begin_ro 0 ∷ end_ro 1 ∷ [])) (ok 2 ∷ only 2 ∷ [])
-    -- 02 (vi): F starts at LSE, does not pass LCE and never falls; 0 is epoch 0
-    ∷ case (made 1) [] (lines_of (confirm_flush 0 ∷ confirm_flush 1 ∷ begin ∷ commit 1 ∷ confirm_flush 0 ∷ confirm_flush 1
-    ∷ confirm_flush 0 ∷ []))
-    (ok 0 ∷ only 4 ∷ ok 1 ∷ closed 1 0 ∷ ok 0 ∷ ok 1 ∷ only 4 ∷ [])
-    -- a target above F is held, also where it was saved and not confirmed, and F itself is not; 0 does not pass F
-    ∷ case (made 1) (begin ∷ begin ∷ commit 1 ∷ commit 2 ∷ confirm_flush 1 ∷ save 2 (replicate 24 0) ∷ [])
-    (lines_of (advance_lse 2 ∷ advance_lse 0 ∷ advance_lse 1 ∷ confirm_flush 2 ∷ advance_lse 0 ∷ []))
-    (only 10 ∷ ok 1 ∷ ok 1 ∷ ok 2 ∷ ok 2 ∷ [])
-    -- recovery has F at the epoch that it gives back
-    ∷ case (made 1) (recover (3 ∷ replicate 23 0) ∷ [])
-    (lines_of (confirm_flush 2 ∷ confirm_flush 4 ∷ confirm_flush 3 ∷ advance_lse 0 ∷ []))
-    (only 4 ∷ only 4 ∷ ok 3 ∷ ok 3 ∷ [])
-    -- F below LSE and F above LCE are unsound
-    ∷ case (flushed_to 3 (made 5)) [] (lines_of (begin ∷ confirm_flush 4 ∷ [])) (only 5 ∷ only 5 ∷ [])
-    ∷ case (flushed_to 5 (made 5)) [] (lines_of (begin ∷ confirm_flush 4 ∷ [])) (only 5 ∷ only 5 ∷ [])
     ∷ []
 
 edges-pass : IsTrue (passes edges)
-unfolding agree alike observed edges gap weighed rows_spoilt totals_spoilt totals flushed_to case look closed ok only
-    last_epoch
+unfolding agree alike observed edges gap weighed rows_spoilt totals_spoilt totals case look closed ok only last_epoch
 edges-pass = yes
 
 pub edges_hold : map observed edges ≡ map (λ c. c.expected) edges
@@ -226,9 +203,8 @@ pub order : List Case
 order =
     case (spoilt (made 1)) [] (lines_of (append 1 8 [] ∷ clear 1 8 ∷ scan (Rw 1) 8 [] ∷ purge 8 ∷ [])) (only 5 ∷
     only 5 ∷ only 5 ∷ only 5 ∷ [])
-    ∷ case (spoilt (made 1)) [] (lines_of (commit 1 ∷ rollback 1 ∷ end_ro 1 ∷ begin_ro 9 ∷ advance_lse 9
-    ∷ confirm_flush 9 ∷ []))
-    (only 5 ∷ only 5 ∷ only 5 ∷ only 5 ∷ only 5 ∷ only 5 ∷ [])
+    ∷ case (spoilt (made 1)) [] (lines_of (commit 1 ∷ rollback 1 ∷ end_ro 1 ∷ begin_ro 9 ∷ advance_lse 9 ∷ []))
+    (only 5 ∷ only 5 ∷ only 5 ∷ only 5 ∷ only 5 ∷ [])
     ∷ case (spoilt (run (begin ∷ []) (made last_epoch))) [] (lines_of (begin ∷ [])) (only 5 ∷ [])
     -- a partition of 64 entries; an append that joins the last and a batch of no rows need none, any other needs one,
     -- and so does a clearing
@@ -241,10 +217,8 @@ order =
     ∷ case (crowded 32 (made (last_epoch - 31))) [] (lines_of (begin ∷ [])) (only 6 ∷ [])
     ∷ case (ticketless (made 1)) [] (lines_of (begin_ro 9 ∷ begin_ro 0 ∷ [])) (only 4 ∷ only 6 ∷ [])
     ∷ case (ticketless (run (replicate 32 (begin_ro 0)) (made 1))) [] (lines_of (begin_ro 0 ∷ [])) (only 6 ∷ [])
-    ∷ case (made 1) (begin ∷ begin_ro 0 ∷ commit 1 ∷ confirm_flush 1 ∷ []) (lines_of (advance_lse 2 ∷ advance_lse 1
-    ∷ advance_lse 0 ∷ []))
-    (only 4 ∷ only 10 ∷ ok 0 ∷ [])
-    ∷ case (made 1) (begin ∷ commit 1 ∷ []) (lines_of (advance_lse 2 ∷ advance_lse 1 ∷ [])) (only 4 ∷ only 10 ∷ [])
+    ∷ case (made 1) (begin ∷ begin_ro 0 ∷ commit 1 ∷ []) (lines_of (advance_lse 2 ∷ advance_lse 1 ∷ [])) (only 4 ∷ only
+    10 ∷ [])
     ∷ []
 
 order-passes : IsTrue (passes order)

@@ -15,7 +15,7 @@ use Rattle.rules.specs.Begin.{created_manager, begun_manager}
 use Rattle.rules.specs.Close.{committed_txns, dropped_txns, settled_lce, oldest_open, settled, committed_manager}
 use Rattle.rules.specs.Close.{rolled_back_manager}
 use Rattle.rules.specs.ReadOnly.{snapshot_epoch, begun_ro_manager, ended_ro_manager}
-use Rattle.rules.specs.Safe.{blocked, greatest_target, target_of, advanced_manager, confirmed_manager}
+use Rattle.rules.specs.Safe.{blocked, greatest_target, target_of, advanced_manager}
 use Rattle.rules.specs.Span.{spans, entries_of, words_of}
 use Rattle.rules.specs.Append.{extended, appended, cleared}
 use Rattle.rules.specs.Sees.{sees_rw, applies_rw}
@@ -30,7 +30,7 @@ use Rattle.rules.specs.WellFormed.{clock_ok, deps_ok, status_ok, writers_ok, rea
 use Rattle.rules.specs.WellFormed.{epoch_ok, ends_ok, apart, partition_ok, lengths_ok, well_formed, totals_ok, sound}
 use Rattle.rules.specs.Calls.{create_answer, begin_answer, append_answer, clear_answer, close_answer}
 use Rattle.rules.specs.Calls.{begin_ro_answer, end_ro_answer, sees_of, applies_of, flags_at, scan_answer}
-use Rattle.rules.specs.Calls.{advance_lse_answer, confirm_flush_answer, purge_answer}
+use Rattle.rules.specs.Calls.{advance_lse_answer, purge_answer}
 use Rattle.rules.specs.Checkpoint.{bytes_of, number_of, numbers_in, encoded, rows_in, header_ok, last_from}
 use Rattle.rules.specs.Recovery.{checkpoint_at, save_answer, recovered_below, recovered_store, recover_answer}
 use Rattle.rules.specs.Step.{Call, create, scan, save, on_scan, saved_over, step, run}
@@ -100,14 +100,14 @@ pub record Case : Type 0 where
 unfoldable pub observed : Case → List (List ℕ)
 unfolding made line lines bits looked last_epoch last_ticket created_manager begun_manager committed_txns
     dropped_txns settled_lce oldest_open settled committed_manager rolled_back_manager snapshot_epoch begun_ro_manager
-    ended_ro_manager blocked greatest_target target_of advanced_manager confirmed_manager spans entries_of words_of extended
-    appended cleared sees_rw applies_rw hidden flags_in flags joined_onto joined has_epoch rolled_back purged_in purged skips
+    ended_ro_manager blocked greatest_target target_of advanced_manager spans entries_of words_of extended appended
+    cleared sees_rw applies_rw hidden flags_in flags joined_onto joined has_epoch rolled_back purged_in purged skips
     bytes_for byte_of packed bitmap_after spans_at laid laid_in_place laid_in_spare created_store rolled_back_at
     rolled_back_below purged_store clock_ok deps_ok status_ok writers_ok readers_ok manager_ok areas_ok epoch_ok ends_ok
     apart partition_ok lengths_ok well_formed shown_in shown weight weight_by total total_at totals_of totals_ok
     sound create_answer begin_answer append_answer clear_answer close_answer
-    begin_ro_answer end_ro_answer sees_of applies_of flags_at scan_answer advance_lse_answer confirm_flush_answer purge_answer step
-    run words_at_ones bytes_of number_of numbers_in encoded rows_in header_ok last_from checkpoint_at save_answer recovered_below
+    begin_ro_answer end_ro_answer sees_of applies_of flags_at scan_answer advance_lse_answer purge_answer step run
+    words_at_ones bytes_of number_of numbers_in encoded rows_in header_ok last_from checkpoint_at save_answer recovered_below
     recovered_store recover_answer saved_over
 observed c = looked c.look (run c.calls c.start)
 

@@ -10,8 +10,8 @@ use Rattle.lists.specs.Lists.{gather}
 use Rattle.rules.specs.Limits.{last_epoch}
 use Rattle.rules.specs.Checkpoint.{bytes_of, number_of, numbers_in, rows_in, header_ok, last_from, saved_in}
 use Rattle.rules.specs.Store.{Store}
-use Rattle.rules.specs.Step.{Call, begin, append, clear, commit, begin_ro, advance_lse, confirm_flush, scan, save}
-use Rattle.rules.specs.Step.{recover, run}
+use Rattle.rules.specs.Step.{Call, begin, append, clear, commit, begin_ro, advance_lse, scan, save, recover}
+use Rattle.rules.specs.Step.{run}
 use Rattle.rules.specs.declared.Reader.TheVariants.{Ro}
 use Rattle.rules.proofs.Look.{made, lines_of, saved_to, entries_in, totals_left, Case, observed, alike, agree}
 use Rattle.rules.proofs.Look.{agree-eq, IsTrue, yes, passes, table-holds}
@@ -64,9 +64,8 @@ rounds =
     ∷ case busy [] (saved_to 1 (replicate 47 170)) ((3 ∷ 0 ∷ []) ∷ replicate 47 170 ∷ [])
     -- LSE to LCE, where 0 is epoch 0: it has no rows, and is 4 once LSE lies above it
     ∷ case busy [] (saved_to 0 (replicate 24 170)) (ok 24 ∷ replicate 24 0 ∷ [])
-    ∷ case busy (confirm_flush 1 ∷ []) (lines_of (save 2 [] ∷ advance_lse 1 ∷ [])) (only 4 ∷ only 10 ∷ [])
-    ∷ case busy (commit 2 ∷ confirm_flush 2 ∷ advance_lse 2 ∷ [])
-    (lines_of (save 0 [] ∷ save 1 [] ∷ save 3 [] ∷ save 2 [] ∷ []))
+    ∷ case busy [] (lines_of (save 2 [] ∷ advance_lse 1 ∷ [])) (only 4 ∷ only 10 ∷ [])
+    ∷ case busy (commit 2 ∷ advance_lse 2 ∷ []) (lines_of (save 0 [] ∷ save 1 [] ∷ save 3 [] ∷ save 2 [] ∷ []))
     (only 4 ∷ only 4 ∷ only 4 ∷ only 3 ∷ [])
     -- a clearing that the page applies takes rows out of the round; the store is as it was
     ∷ case (made 1) (begin ∷ append 1 0 (5 ∷ []) ∷ commit 1 ∷ begin ∷ clear 2 0 ∷ append 2 0 (6 ∷ []) ∷ commit 2 ∷ [])

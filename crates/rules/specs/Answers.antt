@@ -1,5 +1,5 @@
 -- 01's numbers and values for what a call answers. 01 "Refusals that come from the input", ".. from the
--- state", and each call; 02 (v), (vi).
+-- state", and each call; 02 (v).
 -- In order: refusal_number (the one table of refusals), Reply, reply_of (the one table of values), accepted, live_part.
 -- Laws: laws/proofs/Laws/Answers.antt.
 -- Assumes nothing.
@@ -11,7 +11,7 @@ use Rattle.rules.specs.declared.Refusal.TheVariants.{RowsFull, EntriesFull, Bloc
 use Rattle.rules.specs.declared.Answer.{Answer}
 use Rattle.rules.specs.declared.Answer.TheVariants.{Created, Begun, Appended, Cleared, Closed, BegunRo}
 use Rattle.rules.specs.declared.Answer.TheVariants.{EndedRo, Scanned, AdvancedLse, Rewritten, Skipped}
-use Rattle.rules.specs.declared.Answer.TheVariants.{ConfirmedFlush, Saved, Recovered, Refused}
+use Rattle.rules.specs.declared.Answer.TheVariants.{Saved, Recovered, Refused}
 
 abbrev pub refusal_number : Refusal → ℕ
 refusal_number UnknownPartition = 1
@@ -45,7 +45,6 @@ reply_of (BegunRo ticket) = yields (ticket ∷ [])
 reply_of (EndedRo left) = yields (left ∷ [])
 reply_of (Scanned rows ones) = yields (rows ∷ ones ∷ [])
 reply_of (AdvancedLse lse) = yields (lse ∷ [])
-reply_of (ConfirmedFlush flushed) = yields (flushed ∷ [])
 reply_of (Rewritten rows) = yields (1 ∷ [])
 reply_of (Skipped rows) = yields (0 ∷ [])
 reply_of (Saved bytes) = yields (bytes ∷ [])
@@ -77,7 +76,6 @@ live_part old new (BegunRo ticket) = []
 live_part old new (EndedRo left) = []
 live_part old new (Scanned rows ones) = []
 live_part old new (AdvancedLse lse) = []
-live_part old new (ConfirmedFlush flushed) = []
 live_part old new (Rewritten rows) = take rows new
 live_part old new (Skipped rows) = take rows old
 live_part old new (Saved bytes) = []

@@ -1,4 +1,4 @@
--- Making new and begin, in the manager. 01 "The books", first paragraph and Begin; 02 (vi); 004 III-B "EC".
+-- Making new and begin, in the manager. 01 "The books", first paragraph and Begin; 004 III-B "EC".
 -- In order: created_manager, begun_manager. Laws: laws/proofs/Laws/Begin.antt.
 -- Assumes nothing.
 use Rattle.std.specs.Prelude.{List, [], ◌∷◌, ◌++◌, ℕ, suc, ◌-◌}
@@ -6,9 +6,9 @@ use Rattle.rules.specs.Manager.{Writer, writer, empty_manager, writers_of, with_
 use Rattle.rules.specs.Manager.{open_epochs}
 use Rattle.rules.specs.Manager.{Manager}
 
--- making new at s: EC = s, LCE = LSE = s − 1 and F = LSE (02 (vi)), no transaction, next ticket 1
+-- making new at s: EC = s, LCE = LSE = s − 1, no transaction, next ticket 1
 unfoldable pub created_manager : ℕ → Manager
-created_manager s = empty_manager (record { ec = s; lce = s - 1; lse = s - 1; flushed = s - 1 })
+created_manager s = empty_manager (record { ec = s; lce = s - 1; lse = s - 1 })
 
 -- a transaction that begins at epoch e beside the transactions ws: its deps are the epochs open just before
 abbrev pub begun_txn : ℕ → List Writer → Writer

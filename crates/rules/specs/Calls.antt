@@ -1,7 +1,7 @@
 -- Each call: its answer, refusals in 01's order, a line a number. 01 "Refusals" and the sections of the
 -- calls.
--- In order: create, begin, close (commit and roll back), begin and end read-only, advance LSE, confirm what is saved,
--- and those that change only the manager as one; append, clear, purge; scan.
+-- In order: create, begin, close (commit and roll back), begin and end read-only, advance LSE, and those that change
+-- only the manager as one; append, clear, purge; scan.
 -- Laws: laws/proofs/Laws/Calls.antt.
 -- Assumes nothing.
 use Rattle.std.specs.Prelude.{Bool, not, ◌&&◌, cond, List, ℕ, suc, ◌+◌, ◌-◌, length, ltb, leb, eqb}
@@ -12,7 +12,7 @@ use Rattle.rules.specs.Manager.{has_open, deps_at, has_reader, epoch_at, writers
 use Rattle.rules.specs.Begin.{begun_manager}
 use Rattle.rules.specs.Close.{oldest_open, committed_manager}
 use Rattle.rules.specs.ReadOnly.{snapshot_epoch, begun_ro_manager, ended_ro_manager}
-use Rattle.rules.specs.Safe.{blocked, target_of, advanced_manager, confirmed_manager}
+use Rattle.rules.specs.Safe.{blocked, target_of, advanced_manager}
 use Rattle.rules.specs.Span.{words_of}
 use Rattle.rules.specs.Append.{appended}
 use Rattle.rules.specs.Sees.{sees_rw, applies_rw, up_to}
@@ -26,7 +26,6 @@ use Rattle.rules.specs.declared.Reader.{Reader}
 use Rattle.rules.specs.declared.Reader.TheVariants.{Rw, Ro}
 use Rattle.rules.specs.declared.ManagerCall.{ManagerCall}
 use Rattle.rules.specs.declared.ManagerCall.TheVariants.{Begin, Commit, BeginRo, EndRo, AdvanceLse}
-use Rattle.rules.specs.declared.ManagerCall.TheVariants.{ConfirmFlush}
 use Rattle.rules.specs.declared.Refusal.{Refusal}
 use Rattle.rules.specs.declared.Refusal.TheVariants.{UnknownPartition, NotOpen, ShortOutput}
 use Rattle.rules.specs.declared.Refusal.TheVariants.{OutOfRange, Unsound, Exhausted, TxnsFull}
@@ -34,7 +33,7 @@ use Rattle.rules.specs.declared.Refusal.TheVariants.{RowsFull, EntriesFull, Bloc
 use Rattle.rules.specs.declared.Answer.{Answer}
 use Rattle.rules.specs.declared.Answer.TheVariants.{Created, Begun, Appended, Cleared, Closed, BegunRo}
 use Rattle.rules.specs.declared.Answer.TheVariants.{EndedRo, Scanned, AdvancedLse, Rewritten, Skipped}
-use Rattle.rules.specs.declared.Answer.TheVariants.{ConfirmedFlush, Refused}
+use Rattle.rules.specs.declared.Answer.TheVariants.{Refused}
 
 abbrev pub refuse : Refusal → Bool → Answer → Answer
 refuse r test answer = cond test (Refused r) answer
@@ -87,13 +86,6 @@ advance_lse_answer t sound m =
     (refuse Blocked (blocked (target_of t m) m)
     (AdvancedLse (target_of t m))))
 
--- 02 (vi): F never falls, and does not pass LCE; here 0 is epoch 0
-unfoldable pub confirm_flush_answer : ℕ → Bool → Manager → Answer
-confirm_flush_answer e sound m =
-    refuse Unsound (not sound)
-    (refuse OutOfRange (not (within m.clock.flushed m.clock.lce e))
-    (ConfirmedFlush e))
-
 -- the calls that change nothing but the manager: what each answers, and the manager that it leaves once accepted
 abbrev pub manager_answer : ManagerCall → Bool → Manager → Answer
 manager_answer Begin sound m = begin_answer sound m
@@ -101,7 +93,6 @@ manager_answer (Commit i) sound m = close_answer i sound m (committed_manager i 
 manager_answer (BeginRo e) sound m = begin_ro_answer e sound m
 manager_answer (EndRo t) sound m = end_ro_answer t sound m
 manager_answer (AdvanceLse t) sound m = advance_lse_answer t sound m
-manager_answer (ConfirmFlush e) sound m = confirm_flush_answer e sound m
 
 abbrev pub manager_after : ManagerCall → Manager → Manager
 manager_after Begin m = begun_manager m
@@ -109,7 +100,6 @@ manager_after (Commit i) m = committed_manager i m
 manager_after (BeginRo e) m = begun_ro_manager e m
 manager_after (EndRo t) m = ended_ro_manager t m
 manager_after (AdvanceLse t) m = advanced_manager t m
-manager_after (ConfirmFlush e) m = confirmed_manager e m
 
 -- ---- calls on a partition
 

@@ -1,5 +1,5 @@
 -- Demand 3 as one statement: after every list of calls, what a scan shows is what the ledger shows.
--- 01 "The ledger of demand 3", first and last paragraphs; 02 (v), (vi). In order: event_of, history, words_at_ones,
+-- 01 "The ledger of demand 3", first and last paragraphs; 02 (v). In order: event_of, history, words_at_ones,
 -- words_scanned, Agrees, Start, HistoryShows. What it comes to for readers: Promises.antt.
 -- Assumes nothing.
 use Rattle.std.specs.Prelude.{◌≡◌, ◌↔◌, Bool, true, cond, List, [], ◌∷◌, ℕ, suc, ◌/◌, ◌%◌, ◌^◌, ◌≤◌, ◌<◌, length, take, get_or, eqb}
@@ -15,7 +15,6 @@ use Rattle.rules.specs.Ledger.{opened, closed, recovered, other, heard, new_ledg
 use Rattle.rules.specs.Ledger.{has_open_rw, has_open_ro}
 use Rattle.rules.specs.Ledger.{writer_shows, reader_shows}
 use Rattle.rules.specs.declared.ManagerCall.TheVariants.{Begin, Commit, BeginRo, EndRo, AdvanceLse}
-use Rattle.rules.specs.declared.ManagerCall.TheVariants.{ConfirmFlush}
 use Rattle.rules.specs.declared.Reader.{Reader}
 use Rattle.rules.specs.declared.Reader.TheVariants.{Rw, Ro}
 
@@ -31,7 +30,6 @@ event_of (manage (BeginRo e)) r = opened r.number e (first_value r)
 event_of (manage (EndRo t)) r = closed r.number t
 event_of (scan v p lent) r = other
 event_of (manage (AdvanceLse t)) r = other
-event_of (manage (ConfirmFlush e)) r = other
 event_of (purge p) r = other
 event_of (save e lent) r = other
 event_of (recover file) r = recovered r.number file

@@ -1,21 +1,17 @@
 -- What a history leaves: a list of calls on a store that an accepted making new or recovery left. 01 "The books" (LCE),
--- "Refusals" (5); 02 (i), (v), (vi).
--- In order: a history; it is sound; its first call closes all; LCE; the load that holds LCE back; what is confirmed as
--- saved. Proofs: laws/proofs/Promises.antt, laws/proofs/Flushed.antt.
+-- "Refusals" (5); 02 (i), (v).
+-- In order: a history; it is sound; its first call closes all; LCE; the load that holds LCE back. Proofs:
+-- laws/proofs/Promises.antt.
 -- Assumes nothing.
-use Rattle.std.specs.Prelude.{◌≡◌, true, cond, List, [], ◌∷◌, map, ℕ, ◌-◌, ◌≤◌, ◌<◌}
+use Rattle.std.specs.Prelude.{◌≡◌, true, List, [], ◌∷◌, map, ℕ, ◌<◌}
 use Rattle.lists.specs.Lists.{least_of}
 use Rattle.rules.specs.Limits.{partitions_max}
 use Rattle.rules.specs.Store.{Store, manager_of}
 use Rattle.rules.specs.Answers.{reply_of, second_value, accepted}
 use Rattle.rules.specs.WellFormed.{sound}
-use Rattle.rules.specs.Checkpoint.{saved_in}
-use Rattle.rules.specs.Step.{Call, create, manage, append, clear, rollback, scan, purge, save, recover, commit}
-use Rattle.rules.specs.Step.{step, run}
+use Rattle.rules.specs.Step.{Call, rollback, scan, commit, step, run}
 use Rattle.rules.specs.Ledger.{Ledger, latest}
 use Rattle.rules.specs.Claim.{history, ledger_of, is_open_in, Start, first_call, first_ledger}
-use Rattle.rules.specs.declared.ManagerCall.TheVariants.{Begin, Commit, BeginRo, EndRo, AdvanceLse}
-use Rattle.rules.specs.declared.ManagerCall.TheVariants.{ConfirmFlush}
 use Rattle.rules.specs.declared.Reader.{Reader}
 use Rattle.rules.specs.declared.Reader.TheVariants.{Rw}
 use Rattle.rules.specs.declared.Answer.TheVariants.{Refused}
@@ -85,35 +81,3 @@ HistoryNamesHolder =
     let out = step (commit i) at in let lce = (manager_of out.store).clock.lce in
     accepted out.answer ≡ true → lce < i
     → HoldsBack (second_value (reply_of out.answer)) i lce (ledger_next (commit i) at g)
-
--- ---- what is confirmed as saved (02 (vi)): nothing else is purged
-
--- F after an accepted call: making new and recovery set it to the LSE that they leave, a confirmation to its epoch
-abbrev pub confirmed_by : Call → ℕ → ℕ
-confirmed_by (create s) f = s - 1
-confirmed_by (manage Begin) f = f
-confirmed_by (manage (Commit i)) f = f
-confirmed_by (manage (BeginRo e)) f = f
-confirmed_by (manage (EndRo t)) f = f
-confirmed_by (manage (AdvanceLse t)) f = f
-confirmed_by (manage (ConfirmFlush e)) f = e
-confirmed_by (append i p batch) f = f
-confirmed_by (clear i p) f = f
-confirmed_by (rollback i) f = f
-confirmed_by (scan r p lent) f = f
-confirmed_by (purge p) f = f
-confirmed_by (save e lent) f = f
-confirmed_by (recover file) f = (saved_in file).epoch
-
--- after a list of calls: a refused one changes nothing
-unfoldable pub confirmed_after : List Call → Store → ℕ → ℕ
-confirmed_after [] st f = f
-confirmed_after (c ∷ cs) st f =
-    confirmed_after cs (step c st).store (cond (accepted (step c st).answer) (confirmed_by c f) f)
-
--- F is what the calls confirmed, whatever it was before the first of them, and LSE does not pass it
-abbrev pub HistorySaved : Type 0
-HistorySaved =
-    (s : Start) (st : Store) → Made s st → (calls : List Call)
-    → let c = (manager_of (store_after s st calls)).clock in
-    (c.flushed ≡ confirmed_after (first_call s ∷ calls) st 0) × (c.lse ≤ c.flushed)

@@ -95,16 +95,13 @@ abbrev pub with_clock : Clock → Manager → Manager
 with_clock c m = record { clock = c; writers = m.writers; deps = m.deps; readers = m.readers }
 
 abbrev pub with_ec : ℕ → Clock → Clock
-with_ec e c = record { ec = e; lce = c.lce; lse = c.lse; flushed = c.flushed }
+with_ec e c = record { ec = e; lce = c.lce; lse = c.lse }
 
 abbrev pub with_lce : ℕ → Clock → Clock
-with_lce e c = record { ec = c.ec; lce = e; lse = c.lse; flushed = c.flushed }
+with_lce e c = record { ec = c.ec; lce = e; lse = c.lse }
 
 abbrev pub with_lse : ℕ → Clock → Clock
-with_lse e c = record { ec = c.ec; lce = c.lce; lse = e; flushed = c.flushed }
-
-abbrev pub with_flushed : ℕ → Clock → Clock
-with_flushed e c = record { ec = c.ec; lce = c.lce; lse = c.lse; flushed = e }
+with_lse e c = record { ec = c.ec; lce = c.lce; lse = e }
 
 abbrev pub with_writers : List Writer → Manager → Manager
 with_writers ws m = record {

@@ -20,7 +20,6 @@ use Rattle.rules.specs.declared.Reader.{Reader}
 use Rattle.rules.specs.declared.Answer.{Answer}
 use Rattle.rules.specs.declared.ManagerCall.{ManagerCall}
 use Rattle.rules.specs.declared.ManagerCall.TheVariants.{Begin, Commit, BeginRo, EndRo, AdvanceLse}
-use Rattle.rules.specs.declared.ManagerCall.TheVariants.{ConfirmFlush}
 use Rattle.rules.specs.declared.Command.{Command}
 use Rattle.rules.specs.declared.Command.TheVariants.{Create, Manage, Append, Clear, RollBack, Scan, Purge}
 use Rattle.rules.specs.declared.Command.TheVariants.{Save, Recover}
@@ -53,9 +52,6 @@ end_ro t = manage (EndRo t)
 
 abbrev pub advance_lse : ℕ → Call
 advance_lse t = manage (AdvanceLse t)
-
-abbrev pub confirm_flush : ℕ → Call
-confirm_flush e = manage (ConfirmFlush e)
 
 -- the call that a command names, with the batch and the bytes that are lent beside it
 abbrev pub call_of : Command → List ℕ → List ℕ → Call

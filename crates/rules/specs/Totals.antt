@@ -14,7 +14,6 @@ use Rattle.rules.specs.Ledger.{Ledger, with_opened, reader_shows}
 use Rattle.rules.specs.Claim.{Start}
 use Rattle.rules.specs.Histories.{Made, store_after, ledger_after}
 use Rattle.rules.specs.declared.ManagerCall.TheVariants.{Begin, Commit, BeginRo, EndRo, AdvanceLse}
-use Rattle.rules.specs.declared.ManagerCall.TheVariants.{ConfirmFlush}
 
 -- the total that the books keep for partition p
 abbrev pub kept_total : ℕ → Store → ℕ
@@ -43,7 +42,6 @@ leaves_totals (manage (Commit i)) = false
 leaves_totals (manage (BeginRo e)) = true
 leaves_totals (manage (EndRo t)) = true
 leaves_totals (manage (AdvanceLse t)) = true
-leaves_totals (manage (ConfirmFlush e)) = true
 leaves_totals (append i p batch) = true
 leaves_totals (clear i p) = true
 leaves_totals (rollback i) = false

@@ -1,5 +1,4 @@
--- 01's *sound*, over the whole store, as a test. 01 "Refusals that come from the state", last paragraph; 02 (iii),
--- (vi).
+-- 01's *sound*, over the whole store, as a test. 01 "Refusals that come from the state", last paragraph; 02 (iii).
 -- In order: clock, read-write transactions, read-only ones, manager_ok, areas, partitions, lengths of the lent
 -- areas, well_formed, the totals, sound.
 -- Laws: laws/proofs/Laws/WellFormed.antt.
@@ -18,11 +17,9 @@ use Rattle.rules.specs.declared.Partition.{Partition}
 use Rattle.rules.specs.declared.Partitions.{Partitions}
 use Rattle.rules.specs.declared.Entry.{Entry}
 
--- 1 ≤ EC ≤ 2,147,483,648 and EC > LCE ≥ F ≥ LSE (02 (vi))
+-- 1 ≤ EC ≤ 2,147,483,648 and EC > LCE ≥ LSE
 unfoldable pub clock_ok : Clock → Bool
-clock_ok c =
-    leb 1 c.ec && leb c.ec (suc last_epoch) && ltb c.lce c.ec
-    && leb c.flushed c.lce && leb c.lse c.flushed
+clock_ok c = leb 1 c.ec && leb c.ec (suc last_epoch) && ltb c.lce c.ec && leb c.lse c.lce
 
 -- ---- read-write transactions (01: load records)
 

@@ -5,15 +5,14 @@ pub mod limits;
 
 use limits::{DEPS_ALL, PARTITIONS_MAX, READERS_MAX, WRITERS_MAX};
 
-// The clock of 01's books: the next epoch (EC), the latest committed epoch (LCE), the latest safe epoch (LSE), and the
-// last epoch that was confirmed as saved (02 (vi): F).
+// The clock of 01's books: the next epoch (EC), the latest committed epoch (LCE), the latest safe epoch
+// (LSE).
 #[repr(C)]
 #[derive(Drop)]
 pub struct Clock {
     pub ec: u64,
     pub lce: u64,
     pub lse: u64,
-    pub flushed: u64,
 }
 
 // A read-write transaction (01: load). waiting is 0 while it is open, and 1 once it is committed above LCE. deps is
@@ -125,7 +124,6 @@ pub enum Answer {
     EndedRo { left: usize },
     Scanned { rows: usize, ones: usize },
     AdvancedLse { lse: u64 },
-    ConfirmedFlush { flushed: u64 },
     Rewritten { rows: usize },
     Skipped { rows: usize },
     Saved { bytes: usize },
@@ -148,7 +146,6 @@ pub enum ManagerCall {
     BeginRo { epoch: u64 },
     EndRo { ticket: u64 },
     AdvanceLse { target: u64 },
-    ConfirmFlush { epoch: u64 },
 }
 
 // A call as a number of words: what the dispatcher takes, and but for the last two what a session's line names. The

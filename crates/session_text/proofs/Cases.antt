@@ -9,10 +9,10 @@ use lib.ListN.{replicate}
 use Prim.Native.String.{String, [] as none, ◌∷◌ as ◌then◌}
 use Rattle.rules.specs.declared.Answer.{Answer}
 use Rattle.rules.specs.declared.Answer.TheVariants.{Begun, Appended, Cleared, Closed, BegunRo, EndedRo, Scanned}
-use Rattle.rules.specs.declared.Answer.TheVariants.{AdvancedLse, ConfirmedFlush, Rewritten, Skipped, Refused}
+use Rattle.rules.specs.declared.Answer.TheVariants.{AdvancedLse, Rewritten, Refused}
 use Rattle.rules.specs.declared.Command.{Command}
 use Rattle.rules.specs.declared.Command.TheVariants.{Manage, Append, Clear, RollBack, Scan, Purge}
-use Rattle.rules.specs.declared.ManagerCall.TheVariants.{Begin, Commit, BeginRo, EndRo, AdvanceLse, ConfirmFlush}
+use Rattle.rules.specs.declared.ManagerCall.TheVariants.{Begin, Commit, BeginRo, EndRo, AdvanceLse}
 use Rattle.rules.specs.declared.Reader.TheVariants.{Rw, Ro}
 use Rattle.rules.specs.declared.Refusal.TheVariants.{NotOpen, Blocked}
 use Rattle.session_text.specs.declared.Parsed.{Parsed}
@@ -62,11 +62,10 @@ input =
     ∷ append "A 2 0 5" (Append 2 0) 1 (2 ∷ 0 ∷ 5 ∷ [])
     ∷ []
 
--- other calls: a rollback, a confirmation (02 (vi)), no rows, zeros in front, the widest number
+-- other calls: a rollback, no rows, zeros in front, the widest number
 abbrev edges : List Read
 edges =
     call "X 3" (RollBack 3) (3 ∷ [])
-    ∷ call "F 0" (Manage (ConfirmFlush 0)) (0 ∷ [])
     ∷ call "A 1 0" (Append 1 0) (1 ∷ 0 ∷ [])
     ∷ call "C 007" (Manage (Commit 7)) (7 ∷ [])
     ∷ call "C 18446744073709551615" (Manage (Commit 18446744073709551615)) (18446744073709551615 ∷ [])
@@ -92,9 +91,9 @@ edges-numbers = refl
 abbrev others : List String
 others =
     "" ∷ "B " ∷ "b" ∷ "A 1" ∷ "A 1  0" ∷ "A 1 0 " ∷ "D 1" ∷ "D 1 2 3" ∷ "S 2 0" ∷ "S l2" ∷ "S l2 0 1" ∷ "C" ∷ "C 1\r"
-    ∷ "C -1" ∷ "C 18446744073709551616" ∷ "F" ∷ "F 1 2" ∷ []
+    ∷ "C -1" ∷ "C 18446744073709551616" ∷ []
 
-others-bad : map (λ (l : String). parsed (bytes l)) others ≡ replicate 17 Bad
+others-bad : map (λ (l : String). parsed (bytes l)) others ≡ replicate 15 Bad
 unfolding parsed parsed_short words value_of is_number are_numbers numbers_of with_one with_two with_more with_numbers scan_by
 others-bad = refl
 
@@ -113,7 +112,7 @@ says l c a = record { line = l; command = c; answer = a; shown = [] }
 abbrev shows : String → Command → Answer → List ℕ → Said
 shows l c a rows = record { line = l; command = c; answer = a; shown = rows }
 
--- the output of 01's session, and another line of a purge, a scan and 02 (vi)'s call each
+-- the output of 01's session
 abbrev output : List Said
 output =
     says "B 0 1\n" (Manage Begin) (Begun 1)
@@ -130,11 +129,9 @@ output =
     ∷ shows "S 0\n" (Scan (Ro 2) 0) (Scanned 3 0) []
     ∷ says "L 10\n" (Manage (AdvanceLse 2)) (Refused Blocked)
     ∷ says "E 0 1\n" (Manage (EndRo 1)) (EndedRo 1)
-    ∷ says "L 0 0\n" (Manage (AdvanceLse 0)) (AdvancedLse 0)
-    ∷ says "P 0 0\n" (Purge 0) (Skipped 3)
-    ∷ says "A 2\n" (Append 2 0) (Refused NotOpen)
-    ∷ says "F 0 2\n" (Manage (ConfirmFlush 2)) (ConfirmedFlush 2)
+    ∷ says "L 0 2\n" (Manage (AdvanceLse 0)) (AdvancedLse 2)
     ∷ says "P 0 1\n" (Purge 0) (Rewritten 0)
+    ∷ says "A 2\n" (Append 2 0) (Refused NotOpen)
     ∷ shows "S 0 18446744073709551615 0\n" (Scan (Ro 1) 0) (Scanned 2 2) (18446744073709551615 ∷ 0 ∷ [])
     ∷ []
 

@@ -1,4 +1,4 @@
--- The lines that are calls. 01 "A session"; 02 (vi); docs/DECISIONS.md D5.
+-- The lines that are calls. 01 "A session"; docs/DECISIONS.md D5.
 -- In order: the letter of a call, words, numbers, a letter with its numbers, a scan, a line.
 -- Laws: proofs/Laws/Grammar.antt.
 -- Assumes nothing.
@@ -8,7 +8,7 @@ use Rattle.rules.specs.declared.Command.{Command}
 use Rattle.rules.specs.declared.Command.TheVariants.{Create, Manage, Append, Clear, RollBack, Scan, Purge}
 use Rattle.rules.specs.declared.Command.TheVariants.{Save, Recover}
 use Rattle.rules.specs.declared.ManagerCall.{ManagerCall}
-use Rattle.rules.specs.declared.ManagerCall.TheVariants.{Begin, Commit, BeginRo, EndRo, AdvanceLse, ConfirmFlush}
+use Rattle.rules.specs.declared.ManagerCall.TheVariants.{Begin, Commit, BeginRo, EndRo, AdvanceLse}
 use Rattle.rules.specs.declared.Reader.TheVariants.{Rw, Ro}
 use Rattle.session_text.specs.declared.Parsed.{Parsed}
 use Rattle.session_text.specs.declared.Parsed.TheVariants.{Call, Bad}
@@ -25,7 +25,6 @@ manager_letter (Commit i) = 67
 manager_letter (BeginRo e) = 82
 manager_letter (EndRo t) = 69
 manager_letter (AdvanceLse t) = 76
-manager_letter (ConfirmFlush e) = 70
 
 abbrev pub letter_of : Command → ℕ
 letter_of (Create s) = 78
@@ -67,7 +66,7 @@ are_numbers bs = all_of is_number (words bs)
 unfoldable pub numbers_of : List ℕ → List ℕ
 numbers_of bs = map (value_of 0) (words bs)
 
--- ---- a letter and its numbers: C, X, R, E, L, F, P with one, D with two, A with two and its rows
+-- ---- a letter and its numbers: C, X, R, E, L, P with one, D with two, A with two and its rows
 
 unfoldable pub with_one : ℕ → ℕ → Parsed
 with_one letter a =
@@ -76,8 +75,7 @@ with_one letter a =
     (cond (eqb letter 82) (Call (Manage (BeginRo a)) 0)
     (cond (eqb letter 69) (Call (Manage (EndRo a)) 0)
     (cond (eqb letter 76) (Call (Manage (AdvanceLse a)) 0)
-    (cond (eqb letter 70) (Call (Manage (ConfirmFlush a)) 0)
-    (cond (eqb letter 80) (Call (Purge a) 0) Bad))))))
+    (cond (eqb letter 80) (Call (Purge a) 0) Bad)))))
 
 unfoldable pub with_two : ℕ → ℕ → ℕ → Parsed
 with_two letter a b = cond (eqb letter 65) (Call (Append a b) 0) (cond (eqb letter 68) (Call (Clear a b) 0) Bad)

@@ -17,7 +17,6 @@ fn manager_letter(call: ManagerCall) -> u8
         ManagerCall::BeginRo { epoch: _ } => b'R',
         ManagerCall::EndRo { ticket: _ } => b'E',
         ManagerCall::AdvanceLse { target: _ } => b'L',
-        ManagerCall::ConfirmFlush { epoch: _ } => b'F',
     }
 }
 
@@ -62,7 +61,6 @@ fn with_one(letter: u8, a: u64) -> Parsed
         b'R' => bare(Command::Manage(ManagerCall::BeginRo { epoch: a })),
         b'E' => bare(Command::Manage(ManagerCall::EndRo { ticket: a })),
         b'L' => bare(Command::Manage(ManagerCall::AdvanceLse { target: a })),
-        b'F' => bare(Command::Manage(ManagerCall::ConfirmFlush { epoch: a })),
         b'P' => bare(Command::Purge { partition: a }),
         _ => Parsed::Bad,
     }

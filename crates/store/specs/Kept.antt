@@ -12,7 +12,7 @@ use Rattle.rules.specs.Step.{Outcome}
 use Rattle.rules.specs.declared.Answer.{Answer}
 use Rattle.rules.specs.declared.Clock.{Clock}
 use Rattle.rules.specs.declared.ManagerCall.{ManagerCall}
-use Rattle.rules.specs.declared.ManagerCall.TheVariants.{Begin, Commit, BeginRo, EndRo, AdvanceLse, ConfirmFlush}
+use Rattle.rules.specs.declared.ManagerCall.TheVariants.{Begin, Commit, BeginRo, EndRo, AdvanceLse}
 use Rattle.rules.specs.declared.Partitions.{Partitions}
 use Rattle.rules.specs.declared.RwTxns.{RwTxns}
 use Rattle.rules.specs.declared.Entry.{Entry}
@@ -69,7 +69,6 @@ reached_by c ts (Commit i) = lce_after true i c.lce (records_of ts)
 reached_by c ts (BeginRo e) = c.lce
 reached_by c ts (EndRo t) = c.lce
 reached_by c ts (AdvanceLse t) = c.lce
-reached_by c ts (ConfirmFlush e) = c.lce
 
 -- what is asked of the lots: the epochs land that LCE then reaches
 abbrev pub asked_call : Clock → RwTxns → Partitions → List ℕ → ManagerCall → Asked

@@ -22,7 +22,6 @@ pub fn manage_core(state: State, rest: bool, call: ManagerCall) -> Kept
         ManagerCall::BeginRo { epoch } => txn_read::begin_ro(state, rest, epoch),
         ManagerCall::EndRo { ticket } => txn_read::end_ro(state, rest, ticket),
         ManagerCall::AdvanceLse { target } => txn_safe::advance_lse(state, rest, target),
-        ManagerCall::ConfirmFlush { epoch } => txn_flush::confirm_flush(state, rest, epoch),
     }
 }
 

@@ -4,7 +4,7 @@
 ghost use Rattle.std.specs.Prelude.{◌≡◌};
 ghost use Rattle.rules.specs.Store.{created_state};
 ghost use Rattle.rules.specs.Step.{step, manage, append, clear, rollback, create, scan, purge};
-ghost use Rattle.rules.specs.Step.{begin, commit, begin_ro, end_ro, advance_lse, confirm_flush};
+ghost use Rattle.rules.specs.Step.{begin, commit, begin_ro, end_ro, advance_lse};
 ghost use Rattle.rules.specs.declared.Reader.TheVariants.{Rw, Ro};
 ghost use Rattle.store.specs.Kept.{store_of, Left, Showed};
 
@@ -32,7 +32,6 @@ pub fn new_books(s: u64) -> State
             ec: s,
             lce: base,
             lse: base,
-            flushed: base,
         },
         writers: RwTxns { at: ts, count: 0 },
         deps: [0; DEPS_ALL],
@@ -56,7 +55,7 @@ pub fn create(state: State, entries: &[Entry], rows: &[u64], a: u64) -> Kept
     books::create_core(state, n, m, a)
 }
 
-// Any call that changes nothing but the manager, for a caller that has it as a value: the six that follow.
+// Any call that changes nothing but the manager, for a caller that has it as a value: the five that follow.
 pub fn manage(state: State, entries: &[Entry], rows: &[u64], call: ManagerCall) -> Kept
     ensures { Left (step (manage call) (store_of state rows.now entries.now))
         result rows.now entries.now }
@@ -126,16 +125,6 @@ pub fn advance_lse(state: State, entries: &[Entry], rows: &[u64], target: u64) -
     let a = partition_sound::ask(state.clock, state.writers, state.partitions, state.totals);
     let rest = partition_sound::rest_ok(entries, rows, a);
     txn_safe::advance_lse(state, rest, target)
-}
-
-// All epochs up to this one are saved (02 (vi): F); 0 is epoch 0. Refusals, in this order: 5, 4.
-pub fn confirm_flush(state: State, entries: &[Entry], rows: &[u64], epoch: u64) -> Kept
-    ensures { Left (step (confirm_flush epoch) (store_of state rows.now entries.now))
-        result rows.now entries.now }
-{
-    let a = partition_sound::ask(state.clock, state.writers, state.partitions, state.totals);
-    let rest = partition_sound::rest_ok(entries, rows, a);
-    txn_flush::confirm_flush(state, rest, epoch)
 }
 
 // The rows of batch to partition p (01: lot), by transaction txn (01: load). Refusals, in this order: 5, 1, 2, 8, 9.

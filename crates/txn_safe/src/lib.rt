@@ -1,4 +1,4 @@
-// Moving LSE, and how far it may move, on the books by value. 01 "The books", Move LSE; 02 (vi); 004 III-C 5.
+// Moving LSE, and how far it may move, on the books by value. 01 "The books", Move LSE; 004 III-C 5.
 ghost use Rattle.std.specs.Prelude.{◌&&◌, ◌||◌, ◌≡◌, min, ◌-◌, ltb, take};
 ghost use mathlib.Core.List.{map, foldr};
 ghost use Rattle.lists.specs.Lists.{any_of, gather};
@@ -57,14 +57,10 @@ fn reader_blocks(ps: RoTxns, t: u64) -> bool
     false
 }
 
-// 01: held. The epochs up to `flushed` are confirmed as saved (02 (vi)).
-fn is_blocked(flushed: u64, ts: RwTxns, deps: &[u64], ps: RoTxns, t: u64) -> bool
-    ensures { result ≡ (ltb flushed t || any_of (λ p. ltb p.epoch t) (take ps.count ps.at)
+fn is_blocked(ts: RwTxns, deps: &[u64], ps: RoTxns, t: u64) -> bool
+    ensures { result ≡ (any_of (λ p. ltb p.epoch t) (take ps.count ps.at)
         || any_of (dep_blocks t) (viewed ts deps.now)) }
 {
-    if flushed < t {
-        return true;
-    }
     if reader_blocks(ps, t) {
         return true;
     }
@@ -120,7 +116,7 @@ fn under_writers(ts: RwTxns, deps: &[u64], top: u64) -> u64
 fn greatest(c: Clock, ts: RwTxns, deps: &[u64], ps: RoTxns) -> u64
     ensures { result ≡ greatest_target (manager_with c ts deps.now ps) }
 {
-    under_readers(ps, under_writers(ts, deps, c.flushed))
+    under_readers(ps, under_writers(ts, deps, c.lce))
 }
 
 // Moving LSE to t; the value 0 means as far as it may go, which is never refused. Refusals, in this order: 5, 4, 10.
@@ -139,7 +135,7 @@ pub fn advance_lse(state: State, rest: bool, t: u64) -> Kept
             answer = Answer::Refused(Refusal::OutOfRange);
         } else if s.clock.lce < t {
             answer = Answer::Refused(Refusal::OutOfRange);
-        } else if is_blocked(s.clock.flushed, s.writers, &s.deps, s.readers, t) {
+        } else if is_blocked(s.writers, &s.deps, s.readers, t) {
             answer = Answer::Refused(Refusal::Blocked);
         } else {
             s.clock.lse = t;

@@ -1,5 +1,5 @@
 //! The cases at the edges: session lines, and lines of small letters that do what no session can (01, "At the edges", the
-//! refusals; 02, (iii), (v), (vi)). Each small letter has at least two numbers.
+//! refusals; 02, (iii), (v)). Each small letter has at least two numbers.
 //!
 //! - `n s _`: made new at s.
 //! - `w field value`: a word of the store is overwritten (see `field`). Prints nothing.
@@ -38,7 +38,6 @@ fn field(store: &mut Store, at: u64) -> Option<&mut u64> {
         4 => &mut books.rw.count,
         5 => &mut books.ro.count,
         6 => &mut books.partitions.spare,
-        7 => &mut books.clock.confirmed,
         10..=17 => &mut books.partitions.at[lot].area,
         20..=27 => &mut books.partitions.at[lot].rows,
         30..=37 => &mut books.partitions.at[lot].entries,

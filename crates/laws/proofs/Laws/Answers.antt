@@ -15,7 +15,7 @@ use Rattle.rules.specs.declared.Refusal.TheVariants.{OutOfRange, Unsound, Exhaus
 use Rattle.rules.specs.declared.Refusal.TheVariants.{RowsFull, EntriesFull, Blocked, Corrupt}
 use Rattle.rules.specs.declared.Answer.{Answer}
 use Rattle.rules.specs.declared.Answer.TheVariants.{Created, Begun, Appended, Cleared, Closed, BegunRo}
-use Rattle.rules.specs.declared.Answer.TheVariants.{EndedRo, Scanned, AdvancedLse, ConfirmedFlush, Rewritten, Skipped}
+use Rattle.rules.specs.declared.Answer.TheVariants.{EndedRo, Scanned, AdvancedLse, Rewritten, Skipped}
 use Rattle.rules.specs.declared.Answer.TheVariants.{Saved, Recovered, Refused}
 
 pub refused : (r : Refusal) → accepted (Refused r) ≡ false
@@ -54,7 +54,6 @@ answer-cases P f w s o (BegunRo t) = o (BegunRo t) (plain refl (λ _ _. refl) (o
 answer-cases P f w s o (EndedRo n) = o (EndedRo n) (plain refl (λ _ _. refl) (omega arith))
 answer-cases P f w s o (Scanned n k) = o (Scanned n k) (plain refl (λ _ _. refl) (omega arith))
 answer-cases P f w s o (AdvancedLse e) = o (AdvancedLse e) (plain refl (λ _ _. refl) (omega arith))
-answer-cases P f w s o (ConfirmedFlush e) = o (ConfirmedFlush e) (plain refl (λ _ _. refl) (omega arith))
 answer-cases P f w s o (Rewritten n) = w n
 answer-cases P f w s o (Skipped n) = s n
 answer-cases P f w s o (Saved n) = o (Saved n) (plain refl (λ _ _. refl) (omega arith))

@@ -21,7 +21,7 @@ use Rattle.rules.specs.Begin.{created_manager, begun_txn, begun_manager}
 use Rattle.rules.specs.WellFormed.{deps_ok, status_ok, unused_rw, unused_ro, manager_ok}
 use Rattle.rules.specs.declared.Clock.{Clock}
 use Rattle.rules.specs.Manager.{Manager}
-use Rattle.laws.proofs.Laws.Manager.{epochs, opens_below, ClockFacts, lse-low, WriterFacts, status-waits}
+use Rattle.laws.proofs.Laws.Manager.{epochs, opens_below, ClockFacts, WriterFacts, status-waits}
 use Rattle.laws.proofs.Laws.Manager.{status_open, waits-status, manager-facts, manager-ok, writers-with}
 use Rattle.laws.proofs.Laws.Views.{Fits, writers-length}
 
@@ -30,13 +30,7 @@ use Rattle.laws.proofs.Laws.Views.{Fits, writers-length}
 pub created-ok : (s : ℕ) → 1 ≤ s → s ≤ suc last_epoch → manager_ok (created_manager s) ≡ true
 unfolding created_manager
 created-ok s low high = manager-ok (created_manager s) (record {
-  clock = record {
-    ec-low = low;
-    ec-high = omega arith;
-    lce-low = omega arith;
-    flushed-high = omega arith;
-    flushed-low = omega arith;
-  };
+  clock = record { ec-low = low; ec-high = omega arith; lce-low = omega arith; lse-low = omega arith };
   writers-room = omega arith;
   writers = record {
     rising = refl;
@@ -67,7 +61,7 @@ module _ (c : Clock) (ts : List Writer) (f : WriterFacts c ts) (clock : ClockFac
 
   begun-deps : deps_ok c.lse (begun_txn c.ec ts) ≡ true
   unfolding deps_ok
-  begun-deps = rises-lower c.lce c.lse c.ec (open_epochs ts) (lse-low clock)
+  begun-deps = rises-lower c.lce c.lse c.ec (open_epochs ts) clock.lse-low
       (rises-keep_if (λ (t : Writer). t.epoch) is_open c.lce c.ec ts f.rising)
 
   -- those that wait still have an open one below them
@@ -108,13 +102,7 @@ begun_ok m ok more room =
     let f = manager-facts m ok in let c = m.clock in let ts = writers_of m in let k = f.clock in
     let len = writers-length m in
     manager-ok (begun_manager m) (writers-with m (with_ec (suc c.ec) c) (ts ++ (begun_txn c.ec ts ∷ [])) f
-    (record {
-      ec-low = omega arith;
-      ec-high = omega arith;
-      lce-low = omega arith;
-      flushed-high = k.flushed-high;
-      flushed-low = k.flushed-low;
-    })
+    (record { ec-low = omega arith; ec-high = omega arith; lce-low = omega arith; lse-low = k.lse-low })
     (rw (length-append ts (begun_txn c.ec ts ∷ [])) (omega arith))
     (begun-writers c ts f.writers k (omega arith))
     f.readers)

@@ -21,7 +21,7 @@ use Rattle.rules.specs.Store.{Store, manager_of, partition_at, spans_at}
 use Rattle.rules.specs.Answers.{accepted}
 use Rattle.rules.specs.WellFormed.{sound as isSound}
 use Rattle.rules.specs.Calls.{refuse, within, create_answer, begin_answer, close_answer, begin_ro_answer}
-use Rattle.rules.specs.Calls.{advance_lse_answer, confirm_flush_answer, append_answer, clear_answer, purge_answer}
+use Rattle.rules.specs.Calls.{advance_lse_answer, append_answer, clear_answer, purge_answer}
 use Rattle.rules.specs.Manager.{Manager}
 use Rattle.rules.specs.declared.Refusal.{Refusal}
 use Rattle.rules.specs.declared.Refusal.TheVariants.{UnknownPartition, NotOpen}
@@ -147,23 +147,6 @@ advance-passed t sound m h =
     let a = passed Unsound (not sound) _ h in let b = passed OutOfRange (not (within lo hi (target_of t m))) _ a.rest in
     let c = passed Blocked (blocked (target_of t m) m) _ b.rest in
     record { sound = not-false sound a.test; low = within_low lo hi _ b.test; high = within-high lo hi _ b.test; free = c.test }
-
-pub record ConfirmPassed (e : ℕ) (b : Bool) (m : Manager) : Type 0 where
-  pub sound : b ≡ true
-  pub low : m.clock.flushed ≤ e
-  pub high : e ≤ m.clock.lce
-
-pub confirm-passed : (e : ℕ) (sound : Bool) (m : Manager) → accepted (confirm_flush_answer e sound m) ≡ true →
-    ConfirmPassed e sound m
-unfolding confirm_flush_answer
-confirm-passed e sound m h =
-    let lo = m.clock.flushed in let hi = m.clock.lce in
-    let a = passed Unsound (not sound) _ h in let b = passed OutOfRange (not (within lo hi e)) _ a.rest in
-    record {
-      sound = not-false sound a.test;
-      low = within_low lo hi e b.test;
-      high = within-high lo hi e b.test;
-    }
 
 -- append, clear: an open transaction, a partition, and room
 pub record WritePassed (i p : ℕ) (st : Store) : Type 0 where

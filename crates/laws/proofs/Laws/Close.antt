@@ -165,8 +165,7 @@ settled-ok m ts f u room =
       ec-low = k.ec-low;
       ec-high = k.ec-high;
       lce-low = settled-below c ts u k.lce-low;
-      flushed-high = omega arith;
-      flushed-low = k.flushed-low;
+      lse-low = omega arith;
     })
     (omega arith)
     (settled-writers c ts u)

@@ -20,7 +20,7 @@ use Rattle.rules.specs.Begin.{begun_txn, begun_manager}
 use Rattle.rules.specs.Close.{committed_txns, dropped_txns, settled_lce, settled, committed_manager}
 use Rattle.rules.specs.Close.{rolled_back_manager}
 use Rattle.rules.specs.ReadOnly.{begun_ro_manager, ended_ro_manager}
-use Rattle.rules.specs.Safe.{advanced_manager, confirmed_manager}
+use Rattle.rules.specs.Safe.{advanced_manager}
 use Rattle.rules.specs.WellFormed.{epoch_ok, manager_ok}
 use Rattle.rules.specs.Manager.{Manager}
 use Rattle.laws.proofs.Laws.Manager.{epochs, manager-facts, opens-epoch, open-range}
@@ -153,7 +153,3 @@ ended_ro-epoch_ok t m j = refl
 pub advanced-epoch_ok : (t : ℕ) (m : Manager) (j : ℕ) → epoch_ok (advanced_manager t m) j ≡ epoch_ok m j
 unfolding advanced_manager epoch_ok
 advanced-epoch_ok t m j = refl
-
-pub confirmed-epoch_ok : (e : ℕ) (m : Manager) (j : ℕ) → epoch_ok (confirmed_manager e m) j ≡ epoch_ok m j
-unfolding confirmed_manager epoch_ok
-confirmed-epoch_ok e m j = refl

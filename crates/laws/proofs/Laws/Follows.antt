@@ -18,7 +18,7 @@ use Rattle.rules.specs.Manager.{has_open}
 use Rattle.rules.specs.Begin.{begun_manager}
 use Rattle.rules.specs.Close.{settled, committed_manager, rolled_back_manager}
 use Rattle.rules.specs.ReadOnly.{snapshot_epoch, begun_ro_manager, ended_ro_manager}
-use Rattle.rules.specs.Safe.{blocked, target_of, advanced_manager, confirmed_manager}
+use Rattle.rules.specs.Safe.{blocked, target_of, advanced_manager}
 use Rattle.rules.specs.Span.{Span}
 use Rattle.rules.specs.Append.{appended, cleared}
 use Rattle.rules.specs.Rewrite.{purged, skips}
@@ -31,7 +31,7 @@ use Rattle.rules.specs.Manager.{Manager}
 use Rattle.laws.proofs.Laws.Begin.{created-ok as createdManager-ok}
 use Rattle.laws.proofs.Laws.Epochs.{has_open-epoch_ok, purged-epoch_ok, begun-epoch_ok, committed-epoch_ok}
 use Rattle.laws.proofs.Laws.Epochs.{rolled_back-epoch_ok, begun_ro-epoch_ok, ended_ro-epoch_ok}
-use Rattle.laws.proofs.Laws.Epochs.{advanced-epoch_ok, confirmed-epoch_ok}
+use Rattle.laws.proofs.Laws.Epochs.{advanced-epoch_ok}
 use Rattle.laws.proofs.Laws.Lines.{mark_of, AllLines, AllLines-rows}
 use Rattle.laws.proofs.Laws.LinesOf.{lines_of, lines-appended, lines-cleared}
 use Rattle.laws.proofs.Laws.Laid.{Changed}
@@ -43,7 +43,7 @@ use Rattle.laws.proofs.Laws.Totals.{sound-purged}
 use Rattle.laws.proofs.Laws.Tracks.{alive, Tracks, tracks-writer}
 use Rattle.laws.proofs.Laws.TracksBegin.{tracks-create, tracks-begin, alive-begin}
 use Rattle.laws.proofs.Laws.TracksClose.{tracks-commit, tracks-rollback, alive-commit, alive-rollback}
-use Rattle.laws.proofs.Laws.TracksReadOnly.{tracks-begin_ro, tracks-end_ro, tracks-advance, tracks_confirm}
+use Rattle.laws.proofs.Laws.TracksReadOnly.{tracks-begin_ro, tracks-end_ro, tracks-advance}
 use Rattle.laws.proofs.Laws.TracksReadOnly.{tracks-lines}
 use Rattle.laws.proofs.Laws.PartitionFollows.{PartitionFollows, follows-none, follows-added}
 use Rattle.laws.proofs.Laws.PartitionFollows.{follows-alive, follows-rolled_back, follows-advanced}
@@ -123,20 +123,14 @@ module _ {st : Store} {g : Ledger} (F : Follows st g) where
       with-manager (ended_ro_manager t m) (with_open_ro (without t g.readers) g) (tracks-end_ro F.tracks t) refl
       (λ j q. ended_ro-epoch_ok t m j ∙ q) (λ ss ls P. P)
 
-  pub follows-advance : (t : ℕ) → (manager_of st).clock.lse ≤ target_of t (manager_of st)
+  pub follows-advance : (t : ℕ) → (manager_of st).clock.lse ≤ target_of t (manager_of st) → target_of t (manager_of st)
+      ≤ (manager_of st).clock.lce
       → blocked (target_of t (manager_of st)) (manager_of st) ≡ false → Follows (refreshed (with_manager (advanced_manager t
       (manager_of st)) st)) g
   unfolding advanced_manager
-  follows-advance t low free = let m = manager_of st in
-      with-manager (advanced_manager t m) g (tracks-advance F.tracks t free) refl
+  follows-advance t low high free = let m = manager_of st in
+      with-manager (advanced_manager t m) g (tracks-advance F.tracks t high free) refl
       (λ j q. advanced-epoch_ok t m j ∙ q) (λ ss ls P. follows-advanced P (target_of t m) low)
-
-  pub follows_confirm : (e : ℕ) → (manager_of st).clock.flushed ≤ e → e ≤ (manager_of st).clock.lce
-      → Follows (refreshed (with_manager (confirmed_manager e (manager_of st)) st)) g
-  unfolding confirmed_manager
-  follows_confirm e low high = let m = manager_of st in
-      with-manager (confirmed_manager e m) g (tracks_confirm F.tracks e low high) refl
-      (λ j q. confirmed-epoch_ok e m j ∙ q) (λ ss ls P. P)
 
   -- ---- roll back: the manager, and every partition
 

@@ -17,7 +17,7 @@ use Rattle.lists.proofs.Laws.Bools.{and_left, and_right, or_right, or_cases}
 use Rattle.lists.proofs.Laws.Filter.{all_in, all-of, any_in, all_of-replicate}
 use Rattle.lists.proofs.Laws.Order.{rises_in}
 use Rattle.lists.proofs.Laws.Parts.{take-pad, drop-pad}
-use Rattle.lists.proofs.Laws.Tests.{and-three, and_five, and_six, and_seven, no_proof}
+use Rattle.lists.proofs.Laws.Tests.{and-three, and-four, and_six, and_seven, no_proof}
 use Rattle.rules.specs.Limits.{last_epoch, last_ticket, writers_max, readers_max}
 use Rattle.rules.specs.Manager.{Writer, no_rw, no_ro, records_of, writers_of, readers_of, record_of, is_open, opens}
 use Rattle.rules.specs.Manager.{with_clock, with_writers, with_readers}
@@ -40,11 +40,7 @@ pub record ClockFacts (c : Clock) : Type 0 where
   pub ec-low : 1 ≤ c.ec
   pub ec-high : c.ec ≤ suc last_epoch
   pub lce-low : c.lce < c.ec
-  pub flushed-high : c.flushed ≤ c.lce
-  pub flushed-low : c.lse ≤ c.flushed
-
-pub lse-low : {c : Clock} → ClockFacts c → c.lse ≤ c.lce
-lse-low k = omega arith
+  pub lse-low : c.lse ≤ c.lce
 
 -- of the transactions ts in use
 pub record WriterFacts (c : Clock) (ts : List Writer) : Type 0 where
@@ -105,25 +101,18 @@ waits-status ts t w = or_right (is_open t) _
 clock-facts : (c : Clock) → clock_ok c ≡ true → ClockFacts c
 unfolding clock_ok
 clock-facts c h =
-    let p = and_five (leb 1 c.ec) (leb c.ec (suc last_epoch)) (ltb c.lce c.ec) (leb c.flushed c.lce) _
-    h in record {
+    let p = and-four (leb 1 c.ec) (leb c.ec (suc last_epoch)) (ltb c.lce c.ec) _ h in record {
       ec-low = leb-true 1 c.ec p.0;
       ec-high = leb-true c.ec (suc last_epoch) p.1;
       lce-low = ltb-true c.lce c.ec p.2;
-      flushed-high = leb-true c.flushed c.lce p.3;
-      flushed-low = leb-true c.lse c.flushed p.4;
+      lse-low = leb-true c.lse c.lce p.3;
     }
 
 clock-ok : (c : Clock) → ClockFacts c → clock_ok c ≡ true
 unfolding clock_ok
 clock-ok c f =
-    rw (
-      le-leb 1 c.ec f.ec-low,
-      le-leb c.ec (suc last_epoch) f.ec-high,
-      lt-ltb c.lce c.ec f.lce-low,
-      le-leb c.flushed c.lce f.flushed-high,
-    )
-    (le-leb c.lse c.flushed f.flushed-low)
+    rw (le-leb 1 c.ec f.ec-low, le-leb c.ec (suc last_epoch) f.ec-high, lt-ltb c.lce c.ec f.lce-low)
+    (le-leb c.lse c.lce f.lse-low)
 
 -- the snapshot lies from LSE to LCE
 abbrev in_clock : Clock → RoTxn → Bool

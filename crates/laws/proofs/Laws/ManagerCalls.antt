@@ -16,12 +16,12 @@ use Rattle.rules.specs.Manager.{has_open, has_reader, writers_of}
 use Rattle.rules.specs.Begin.{begun_manager}
 use Rattle.rules.specs.Close.{committed_txns, settled, committed_manager}
 use Rattle.rules.specs.ReadOnly.{snapshot_epoch, begun_ro_manager, ended_ro_manager}
-use Rattle.rules.specs.Safe.{blocked, target_of, advanced_manager, confirmed_manager}
+use Rattle.rules.specs.Safe.{blocked, target_of, advanced_manager}
 use Rattle.rules.specs.Store.{Store, manager_of, with_manager}
 use Rattle.rules.specs.Answers.{reply_of, accepted}
 use Rattle.rules.specs.WellFormed.{sound}
 use Rattle.rules.specs.Calls.{within, begin_answer, close_answer, begin_ro_answer, end_ro_answer, advance_lse_answer}
-use Rattle.rules.specs.Calls.{confirm_flush_answer, manager_answer, manager_after}
+use Rattle.rules.specs.Calls.{manager_answer, manager_after}
 use Rattle.rules.specs.Step.{manage, step}
 use Rattle.rules.specs.Ledger.{Ledger, heard}
 use Rattle.rules.specs.Claim.{event_of, is_open_in}
@@ -29,29 +29,29 @@ use Rattle.rules.specs.Promises.{is_load, is_page, spares}
 use Rattle.rules.specs.Totals.{leaves_totals}
 use Rattle.rules.specs.Manager.{Manager}
 use Rattle.rules.specs.declared.ManagerCall.{ManagerCall}
-use Rattle.rules.specs.declared.ManagerCall.TheVariants.{Begin, Commit, BeginRo, EndRo, AdvanceLse, ConfirmFlush}
+use Rattle.rules.specs.declared.ManagerCall.TheVariants.{Begin, Commit, BeginRo, EndRo, AdvanceLse}
 use Rattle.rules.specs.declared.Reader.{Reader}
 use Rattle.rules.specs.declared.Refusal.TheVariants.{NotOpen, OutOfRange, Exhausted, TxnsFull, Blocked}
 use Rattle.rules.specs.declared.Answer.{Answer}
 use Rattle.laws.proofs.Laws.NotUnsound.{Not5, ends, past}
-use Rattle.laws.proofs.Laws.Calls.{begin-passed, close_passed, begin_ro-passed, advance-passed, confirm-passed}
+use Rattle.laws.proofs.Laws.Calls.{begin-passed, close_passed, begin_ro-passed, advance-passed}
 use Rattle.laws.proofs.Laws.Begin.{begun_ok}
 use Rattle.laws.proofs.Laws.Close.{settled-rises, committed-ok}
 use Rattle.laws.proofs.Laws.ReadOnly.{begun_ro-ok, ended_ro-ok}
-use Rattle.laws.proofs.Laws.Safe.{advanced-ok, confirmed-ok}
+use Rattle.laws.proofs.Laws.Safe.{advanced-ok}
 use Rattle.laws.proofs.Laws.Epochs.{begun-epoch_ok, committed-epoch_ok, begun_ro-epoch_ok, ended_ro-epoch_ok}
-use Rattle.laws.proofs.Laws.Epochs.{advanced-epoch_ok, confirmed-epoch_ok}
+use Rattle.laws.proofs.Laws.Epochs.{advanced-epoch_ok}
 use Rattle.laws.proofs.Laws.WellFormed.{StoreOk}
 use Rattle.laws.proofs.Laws.Store.{with-manager-ok}
 use Rattle.laws.proofs.Laws.Follows.{Follows, follows-begin, follows-commit, follows-begin_ro, follows-end_ro}
-use Rattle.laws.proofs.Laws.Follows.{follows-advance, follows_confirm}
+use Rattle.laws.proofs.Laws.Follows.{follows-advance}
 use Rattle.laws.proofs.Laws.Snapshots.{Keeps, keeps_same, keeps-begin, keeps-close}
 use Rattle.laws.proofs.Laws.Snapshots.{keeps-begin_ro, keeps-end_ro}
 
 -- ---- no 5
 
 pub manager-not_5 : (c : ManagerCall) (m : Manager) → Not5 (manager_answer c true m)
-unfolding begin_answer close_answer begin_ro_answer end_ro_answer advance_lse_answer confirm_flush_answer
+unfolding begin_answer close_answer begin_ro_answer end_ro_answer advance_lse_answer
 manager-not_5 Begin m = past Exhausted (eqb m.clock.ec (suc last_epoch)) _ refl
     (past TxnsFull (leb writers_max m.writers.count) _ refl (ends _ refl))
 manager-not_5 (Commit i) m = past NotOpen (not (has_open i m)) _ refl (ends _ refl)
@@ -62,8 +62,6 @@ manager-not_5 (EndRo t) m = past NotOpen (not (has_reader t m)) _ refl (ends _ r
 manager-not_5 (AdvanceLse n) m =
     past OutOfRange (not (within m.clock.lse m.clock.lce (target_of n m))) _ refl
     (past Blocked (blocked (target_of n m) m) _ refl (ends _ refl))
-manager-not_5 (ConfirmFlush e) m =
-    past OutOfRange (not (within m.clock.flushed m.clock.lce e)) _ refl (ends _ refl)
 
 -- ---- sound
 
@@ -76,7 +74,6 @@ manager-passed (BeginRo e) b m t = (begin_ro-passed e b m t).sound
 manager-passed (EndRo n) true m t = refl
 manager-passed (EndRo n) false m t = t
 manager-passed (AdvanceLse n) b m t = (advance-passed n b m t).sound
-manager-passed (ConfirmFlush e) b m t = (confirm-passed e b m t).sound
 
 pub manager-sound : (c : ManagerCall) (st : Store) → StoreOk st
     → accepted (manager_answer c (sound st) (manager_of st)) ≡ true
@@ -91,34 +88,29 @@ manager-sound (BeginRo e) st ok t = let m = manager_of st in let k = begin_ro-pa
 manager-sound (EndRo n) st ok t = let m = manager_of st in
     with-manager-ok (ended_ro_manager n m) st ok (ended_ro-ok n m ok.manager) (λ j q. ended_ro-epoch_ok n m j ∙ q)
 manager-sound (AdvanceLse n) st ok t = let m = manager_of st in let k = advance-passed n (sound st) m t in
-    with-manager-ok (advanced_manager n m) st ok (advanced-ok n m ok.manager k.free)
+    with-manager-ok (advanced_manager n m) st ok (advanced-ok n m ok.manager k.high k.free)
     (λ j q. advanced-epoch_ok n m j ∙ q)
-manager-sound (ConfirmFlush e) st ok t = let m = manager_of st in let k = confirm-passed e (sound st) m t in
-    with-manager-ok (confirmed_manager e m) st ok (confirmed-ok e m ok.manager k.low k.high)
-    (λ j q. confirmed-epoch_ok e m j ∙ q)
 
 -- ---- LCE
 
 -- no call lowers it
 pub lce-rises : (c : ManagerCall) (m : Manager) → m.clock.lce ≤ (manager_after c m).clock.lce
-unfolding begun_manager begun_ro_manager ended_ro_manager advanced_manager confirmed_manager committed_manager settled
+unfolding begun_manager begun_ro_manager ended_ro_manager advanced_manager committed_manager settled
 lce-rises Begin m = omega arith
 lce-rises (Commit i) m = settled-rises m.clock.lce (committed_txns i (writers_of m))
 lce-rises (BeginRo e) m = omega arith
 lce-rises (EndRo n) m = omega arith
 lce-rises (AdvanceLse n) m = omega arith
-lce-rises (ConfirmFlush e) m = omega arith
 
 -- only a commit moves it
 pub lce-stays : (c : ManagerCall) (m : Manager) → leaves_totals (manage c) ≡ true
     → (manager_after c m).clock.lce ≡ m.clock.lce
-unfolding begun_manager begun_ro_manager ended_ro_manager advanced_manager confirmed_manager
+unfolding begun_manager begun_ro_manager ended_ro_manager advanced_manager
 lce-stays Begin m h = refl
 lce-stays (Commit i) m h = no_proof h
 lce-stays (BeginRo e) m h = refl
 lce-stays (EndRo n) m h = refl
 lce-stays (AdvanceLse n) m h = refl
-lce-stays (ConfirmFlush e) m h = refl
 
 -- ---- the ledger follows
 
@@ -142,10 +134,7 @@ manager-follows (BeginRo e) {st} F = both-or (begin_ro_answer e (sound st) (mana
 manager-follows (EndRo n) {st} F = both-or (end_ro_answer n (sound st) (manager_of st)) F (λ _. follows-end_ro F n)
 manager-follows (AdvanceLse n) {st} F = split (accepted (advance_lse_answer n (sound st) (manager_of st)))
     (λ t. let k = advance-passed n (sound st) (manager_of st) t in
-    rw t (follows-advance F n k.low k.free))
-    (λ f. rw f F)
-manager-follows (ConfirmFlush e) {st} F = split (accepted (confirm_flush_answer e (sound st) (manager_of st)))
-    (λ t. let k = confirm-passed e (sound st) (manager_of st) t in rw t (follows_confirm F e k.low k.high))
+    rw t (follows-advance F n k.low k.high k.free))
     (λ f. rw f F)
 
 -- ---- readers keep their snapshots
@@ -178,4 +167,3 @@ manager-keeps (EndRo n) {st} {g} F r o h = left_or r (end_ro_answer n (sound st)
   lines = refl;
 })
 manager-keeps (AdvanceLse n) {g = g} F r o h = record { snapshot = keeps_same g r o; lines = refl }
-manager-keeps (ConfirmFlush e) {g = g} F r o h = record { snapshot = keeps_same g r o; lines = refl }

@@ -1,9 +1,9 @@
--- LSE: what blocks it, the greatest target, and that a move, and a confirmation (02 (vi)), keep the manager sound.
--- Definitions: rules/specs/Safe.antt.
--- In order: Free, the greatest target, the value 0, advanced-ok, confirmed-ok, what lies up to LSE.
+-- LSE: what blocks it, the greatest target, and that a move keeps the manager sound. Definitions:
+-- rules/specs/Safe.antt.
+-- In order: Free, the greatest target, the value 0, advanced-ok, what lies up to LSE.
 -- Assumes nothing.
 use mathlib.Core.Path.{◌≡◌, refl}
-use mathlib.Core.Bool.{Bool, true, false, ◌&&◌, ◌||◌, cond}
+use mathlib.Core.Bool.{Bool, true, false, ◌&&◌, cond}
 use mathlib.Core.Logic.{◌⊎◌, inl, inr}
 use mathlib.Core.List.Memᴰ
 use mathlib.Core.List.{List, [], ◌∷◌, ◌++◌, map, Memᴰ as In}
@@ -20,7 +20,7 @@ use Rattle.lists.proofs.Laws.Order.{in-gather, gather_in}
 use Rattle.rules.specs.Manager.{Writer, no_writer, no_ro, is_open, opens, has_open, deps_at, has_ticket, epoch_at}
 use Rattle.rules.specs.Manager.{writers_of}
 use Rattle.rules.specs.Manager.{readers_of, with_clock, with_lse}
-use Rattle.rules.specs.Safe.{blocked, greatest_target, target_of, advanced_manager, confirmed_manager}
+use Rattle.rules.specs.Safe.{blocked, greatest_target, target_of, advanced_manager}
 use Rattle.rules.specs.WellFormed.{deps_ok, manager_ok}
 use Rattle.rules.specs.Calls.{is_reader, sees_of, applies_of}
 use Rattle.rules.specs.declared.RoTxn.{RoTxn}
@@ -34,7 +34,6 @@ use Rattle.laws.proofs.Laws.Sees.{sees-earlier, applies-all}
 -- ---- what does not block n
 
 pub record Free (n : ℕ) (m : Manager) : Type 0 where
-  pub saved : n ≤ m.clock.flushed
   pub readers : (p : RoTxn) → In p (readers_of m) → n ≤ p.epoch
   pub deps : (t : Writer) → In t (writers_of m) → is_open t ≡ true → (d : ℕ) → In d t.deps → n < d
 
@@ -48,21 +47,16 @@ blocks n x = is_open x && any_of (λ d. leb d n) x.deps
 pub free-of-blocked : (n : ℕ) (m : Manager) → blocked n m ≡ false → Free n m
 unfolding blocked
 free-of-blocked n m h =
-    let unsaved = ltb m.clock.flushed n in let readers = any_of (below n) (readers_of m) in
-    let writers = any_of (blocks n) (writers_of m) in let first = or-false-left (unsaved || readers) writers h in record {
-      saved = ltb-false m.clock.flushed n (or-false-left unsaved readers first);
-      readers = λ p i. ltb-false p.epoch n (none_in (below n) (or-false_right unsaved readers first) i);
-      deps = λ t i o d k. leb-false d n (none_in (λ (e : ℕ). leb e n)
-          (rw o at (none_in (blocks n) (or-false_right (unsaved || readers) writers h) i)) k);
+    let readers = any_of (below n) (readers_of m) in let writers = any_of (blocks n) (writers_of m) in record {
+      readers = λ p i. ltb-false p.epoch n (none_in (below n) (or-false-left readers writers h) i);
+      deps = λ t i o d k. leb-false d n
+          (none_in (λ (e : ℕ). leb e n) (rw o at (none_in (blocks n) (or-false_right readers writers h) i)) k);
     }
 
 pub blocked-of-free : (n : ℕ) (m : Manager) → Free n m → blocked n m ≡ false
 unfolding blocked
 blocked-of-free n m f =
-    rw (
-      le-ltb m.clock.flushed n f.saved,
-      none_of (below n) (readers_of m) (λ p i. le-ltb p.epoch n (f.readers p i)),
-    )
+    rw (none_of (below n) (readers_of m) (λ p i. le-ltb p.epoch n (f.readers p i)))
     (none_of (blocks n) (writers_of m) (λ t i. split (is_open t)
     (λ o. rw o (none_of (λ (d : ℕ). leb d n) t.deps (λ d k. lt-leb d n (f.deps t i o d k))))
     (λ c. rw c)))
@@ -91,40 +85,35 @@ bounds-above n m f x i = go (Memᴰ.append_cases (map (λ (p : RoTxn). p.epoch) 
         let a = f.readers w.0 w.1 in let e = w.2 in omega arith
     go (inr k) = let w = gather_in below_deps (writers_of m) k in dep w.0 w.1 w.2
 
--- an unblocked target is at most the greatest
-pub greatest-above : (n : ℕ) (m : Manager) → Free n m → n ≤ greatest_target m
+-- an unblocked target up to LCE is at most the greatest
+pub greatest-above : (n : ℕ) (m : Manager) → n ≤ m.clock.lce → Free n m → n ≤ greatest_target m
 unfolding greatest_target
-greatest-above n m f = foldr-min-above m.clock.flushed n (bounds m) f.saved (bounds-above n m f)
+greatest-above n m h f = foldr-min-above m.clock.lce n (bounds m) h (bounds-above n m f)
 
 module _ (m : Manager) (f : ManagerFacts m) where
   -- every dep is above LSE
   pub lse-free : Free m.clock.lse m
   unfolding deps_ok
   lse-free = record {
-    saved = f.clock.flushed-low;
     readers = f.readers.low;
     deps = λ t i o d k. (rises_in m.clock.lse t.epoch t.deps (f.writers.deps t i) k).0;
   }
 
   pub greatest-low : m.clock.lse ≤ greatest_target m
-  greatest-low = greatest-above m.clock.lse m lse-free
-
-  greatest-saved : greatest_target m ≤ m.clock.flushed
-  unfolding greatest_target
-  greatest-saved = foldr-min-base m.clock.flushed (bounds m)
+  greatest-low = greatest-above m.clock.lse m f.clock.lse-low lse-free
 
   pub greatest-high : greatest_target m ≤ m.clock.lce
-  greatest-high = let a = greatest-saved in let k = f.clock in omega arith
+  unfolding greatest_target
+  greatest-high = foldr-min-base m.clock.lce (bounds m)
 
   pub greatest-free : Free (greatest_target m) m
   unfolding greatest_target
   greatest-free = record {
-    saved = greatest-saved;
-    readers = λ p i. foldr-min_in m.clock.flushed
+    readers = λ p i. foldr-min_in m.clock.lce
         (Memᴰ.append_left (gather below_deps (writers_of m)) (Memᴰ.map (λ (q : RoTxn). q.epoch) i));
     deps = λ t i o d k. let low = lse-free.deps t i o d k in
         let j : In (d - 1) (below_deps t) = rw o (Memᴰ.map (λ (e : ℕ). e - 1) k) in
-        let b = foldr-min_in m.clock.flushed
+        let b = foldr-min_in m.clock.lce
         (Memᴰ.append_right (map (λ (q : RoTxn). q.epoch) (readers_of m)) (in-gather below_deps i j)) in omega arith;
   }
 
@@ -140,7 +129,7 @@ target-greatest m ok = let f = manager-facts m ok in record {
   low = greatest-low m f;
   high = greatest-high m f;
   free = blocked-of-free (greatest_target m) m (greatest-free m f);
-  greatest = λ t h b. greatest-above t m (free-of-blocked t m b);
+  greatest = λ t h b. greatest-above t m h (free-of-blocked t m b);
 }
 
 -- so it is never refused
@@ -150,17 +139,11 @@ target-zero m ok = target-greatest m ok
 
 -- ---- the move
 
-pub advanced-facts : (n : ℕ) (m : Manager) → ManagerFacts m → Free n m
+pub advanced-facts : (n : ℕ) (m : Manager) → ManagerFacts m → n ≤ m.clock.lce → Free n m
     → ManagerFacts (with_clock (with_lse n m.clock) m)
 unfolding deps_ok
-advanced-facts n m f free = let k = f.clock in let r = f.readers in let w = f.writers in record {
-  clock = record {
-    ec-low = k.ec-low;
-    ec-high = k.ec-high;
-    lce-low = k.lce-low;
-    flushed-high = k.flushed-high;
-    flushed-low = free.saved;
-  };
+advanced-facts n m f high free = let k = f.clock in let r = f.readers in let w = f.writers in record {
+  clock = record { ec-low = k.ec-low; ec-high = k.ec-high; lce-low = k.lce-low; lse-low = high };
   writers-room = f.writers-room;
   writers_unused = f.writers_unused;
   deps-room = f.deps-room;
@@ -186,40 +169,11 @@ advanced-facts n m f free = let k = f.clock in let r = f.readers in let w = f.wr
         (λ o. rises-from m.clock.lse n t.epoch t.deps (λ d k. free.deps t i o d k) (f.writers.deps t i))
         (λ c. none t.epoch t.deps (status-waits (writers_of m) t (f.writers.status t i) c).idle)
 
-pub advanced-ok : (t : ℕ) (m : Manager) → manager_ok m ≡ true → blocked (target_of t m) m ≡ false
-    → manager_ok (advanced_manager t m) ≡ true
+pub advanced-ok : (t : ℕ) (m : Manager) → manager_ok m ≡ true → target_of t m ≤ m.clock.lce
+    → blocked (target_of t m) m ≡ false → manager_ok (advanced_manager t m) ≡ true
 unfolding advanced_manager
-advanced-ok t m ok b = let n = target_of t m in
-    manager-ok (advanced_manager t m) (advanced-facts n m (manager-facts m ok) (free-of-blocked n m b))
-
--- ---- a confirmation
-
-pub confirmed-ok : (e : ℕ) (m : Manager) → manager_ok m ≡ true → m.clock.flushed ≤ e → e ≤ m.clock.lce
-    → manager_ok (confirmed_manager e m) ≡ true
-unfolding confirmed_manager
-confirmed-ok e m ok low high = let f = manager-facts m ok in let k = f.clock in
-    manager-ok (confirmed_manager e m) (record {
-      clock = record {
-        ec-low = k.ec-low;
-        ec-high = k.ec-high;
-        lce-low = k.lce-low;
-        flushed-high = high;
-        flushed-low = omega arith;
-      };
-      writers-room = f.writers-room;
-      writers = record {
-        rising = f.writers.rising;
-        status = f.writers.status;
-        deps = f.writers.deps;
-        fits = f.writers.fits;
-      };
-      writers_unused = f.writers_unused;
-      deps-room = f.deps-room;
-      deps_unused = f.deps_unused;
-      readers-room = f.readers-room;
-      readers = f.readers;
-      readers_unused = f.readers_unused;
-    })
+advanced-ok t m ok high b = let n = target_of t m in
+    manager-ok (advanced_manager t m) (advanced-facts n m (manager-facts m ok) high (free-of-blocked n m b))
 
 -- ---- what lies up to LSE: in nobody's deps, and at or below each snapshot, so every reader sees and applies
 -- it

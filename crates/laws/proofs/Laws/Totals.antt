@@ -27,7 +27,7 @@ use Rattle.laws.proofs.Laws.WellFormed.{StoreOk, store-facts, store_ok}
 use Rattle.laws.proofs.Laws.Laid.{Changed}
 use Rattle.laws.proofs.Laws.Lines.{mark_of, AllLines}
 use Rattle.laws.proofs.Laws.LinesOf.{lines_of}
-use Rattle.laws.proofs.Laws.Manager.{lse-low, manager-facts}
+use Rattle.laws.proofs.Laws.Manager.{manager-facts}
 use Rattle.laws.proofs.Laws.Epochs.{has_open-range, purged-epoch_ok}
 use Rattle.laws.proofs.Laws.Store.{own-area, created-spans, purge-changed}
 use Rattle.laws.proofs.Laws.Weight.{total-added, total-purged}
@@ -203,7 +203,7 @@ module _ (st : Store) (ok : SoundOk st) where
   purged-total : (p : ℕ) → total m.clock.lce (purged_spans p) ≡ total_at p st
   unfolding total_at
   purged-total p = let k = (manager-facts m ok.shape.manager).clock in
-      total-purged m.clock.lce m.clock.lse (spans_at p st) (lse-low k)
+      total-purged m.clock.lce m.clock.lse (spans_at p st) k.lse-low
 
   purged-totals : (p : ℕ) → (purged_store p st).state.totals ≡ st.state.totals
   unfolding purged_store laid_in_spare laid

@@ -19,7 +19,7 @@ use Rattle.lists.proofs.Laws.Tests.{and_mask, or_comm}
 use Rattle.rules.specs.Limits.{last_ticket, readers_max}
 use Rattle.rules.specs.Manager.{no_ro, has_ticket, readers_of}
 use Rattle.rules.specs.ReadOnly.{snapshot_epoch, begun_ro_manager, ended_ro_manager}
-use Rattle.rules.specs.Safe.{blocked, target_of, advanced_manager, confirmed_manager}
+use Rattle.rules.specs.Safe.{blocked, target_of, advanced_manager}
 use Rattle.rules.specs.Ledger.{Line, Snapshot, Ledger, no_snapshot, named, without, latest, with_lines}
 use Rattle.rules.specs.Ledger.{with_open_ro}
 use Rattle.rules.specs.Ledger.{with_opened}
@@ -27,7 +27,7 @@ use Rattle.rules.specs.declared.RoTxn.{RoTxn}
 use Rattle.rules.specs.Manager.{Manager}
 use Rattle.laws.proofs.Laws.Manager.{tickets, ReaderFacts, manager-facts, readers_of_with}
 use Rattle.laws.proofs.Laws.ReadOnly.{begun_ro-ok, ended_ro-ok}
-use Rattle.laws.proofs.Laws.Safe.{advanced-ok, confirmed-ok}
+use Rattle.laws.proofs.Laws.Safe.{advanced-ok}
 use Rattle.laws.proofs.Laws.Epochs.{has_open-range}
 use Rattle.laws.proofs.Laws.Tracks.{alive, epoch_in, ReadersTrack, Tracks, marks_of-first, marks_of-rest}
 use Rattle.laws.proofs.Laws.Tracks.{tracks-latest}
@@ -133,19 +133,11 @@ tracks-end_ro {m} {g} T t = record {
 
 -- ---- LSE and lines
 
-pub tracks-advance : {m : Manager} {g : Ledger} → Tracks m g → (t : ℕ) → blocked (target_of t m) m ≡ false
-    → Tracks (advanced_manager t m) g
+pub tracks-advance : {m : Manager} {g : Ledger} → Tracks m g → (t : ℕ) → target_of t m ≤ m.clock.lce
+    → blocked (target_of t m) m ≡ false → Tracks (advanced_manager t m) g
 unfolding advanced_manager
-tracks-advance {m} {g} T t free =
-    record { ok = advanced-ok t m T.ok free; writers = T.writers; readers = T.readers }
-
--- ---- a confirmation
-
-pub tracks_confirm : {m : Manager} {g : Ledger} → Tracks m g → (e : ℕ) → m.clock.flushed ≤ e → e ≤ m.clock.lce
-    → Tracks (confirmed_manager e m) g
-unfolding confirmed_manager
-tracks_confirm {m} {g} T e low high =
-    record { ok = confirmed-ok e m T.ok low high; writers = T.writers; readers = T.readers }
+tracks-advance {m} {g} T t high free =
+    record { ok = advanced-ok t m T.ok high free; writers = T.writers; readers = T.readers }
 
 pub tracks-lines : {m : Manager} {g : Ledger} → Tracks m g → (ls : List (List Line)) → Tracks m (with_lines ls g)
 tracks-lines T ls = record { ok = T.ok; writers = T.writers; readers = T.readers }

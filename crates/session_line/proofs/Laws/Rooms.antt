@@ -74,8 +74,7 @@ fit-one : (letter a : ℕ) → Fit 1 (with_one letter a)
 unfolding with_one
 fit-one letter a = let f : Fit 1 (Is (Create 0) 0) = (refl, omega arith) in
     fit-cond 1 (eqb letter 67) _ _ f (fit-cond 1 (eqb letter 88) _ _ f (fit-cond 1 (eqb letter 82) _ _ f
-    (fit-cond 1 (eqb letter 69) _ _ f (fit-cond 1 (eqb letter 76) _ _ f (fit-cond 1 (eqb letter 70) _ _ f
-    (fit-cond 1 (eqb letter 80) _ _ f tt))))))
+    (fit-cond 1 (eqb letter 69) _ _ f (fit-cond 1 (eqb letter 76) _ _ f (fit-cond 1 (eqb letter 80) _ _ f tt)))))
 
 fit-numbers : (letter : ℕ) (ns : List ℕ) → length ns ≤ numbers_max → Fit (length ns) (with_numbers letter ns)
 unfolding with_numbers with_two with_more

@@ -13,7 +13,7 @@ use Rattle.rules.specs.Step.{step, create, manage}
 use Rattle.rules.specs.Store.{Store, spans_at, total_at, totals_of, state_of, created_store}
 use Rattle.rules.specs.Limits.{partitions_max}
 use Rattle.rules.specs.declared.ManagerCall.{ManagerCall}
-use Rattle.rules.specs.declared.ManagerCall.TheVariants.{Begin, Commit, BeginRo, EndRo, AdvanceLse, ConfirmFlush}
+use Rattle.rules.specs.declared.ManagerCall.TheVariants.{Begin, Commit, BeginRo, EndRo, AdvanceLse}
 use Rattle.rules.specs.declared.Entry.{Entry}
 use Rattle.rules.specs.Manager.{Manager, manager_in}
 use Rattle.rules.specs.Totals.{leaves_totals}
@@ -89,7 +89,6 @@ module _ (s : State) (n : length s.partitions.at ≡ partitions_max) (n' : lengt
   reached-is (BeginRo e) ok = sym (lce-stays (BeginRo e) m refl)
   reached-is (EndRo t) ok = sym (lce-stays (EndRo t) m refl)
   reached-is (AdvanceLse t) ok = sym (lce-stays (AdvanceLse t) m refl)
-  reached-is (ConfirmFlush e) ok = sym (lce-stays (ConfirmFlush e) m refl)
 
   -- what the lots' test finds for the call
   abbrev pub found_for : ManagerCall → Verdict

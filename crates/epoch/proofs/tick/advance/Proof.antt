@@ -85,8 +85,7 @@ module _ {M : Type 1} {𝓤 : Ura M} (𝓛 : Logic 𝓤) (at_mem : Memory → SP
   at = (vptr b o ∷ [], tt)
 
   abbrev mach : ℕ → Val
-  mach m = vstruct (vcons (vint w64 m) (vcons (vint w64 h.lce) (vcons (vint w64 h.lse)
-      (vcons (vint w64 h.flushed) vnil))))
+  mach m = vstruct (vcons (vint w64 m) (vcons (vint w64 h.lce) (vcons (vint w64 h.lse) vnil)))
 
   -- what closing the borrow asks
   made : h.ec + 1 < 2 ^ 64 → Is T.the_row h (LL.vals T.the_type T'.the_laws h)

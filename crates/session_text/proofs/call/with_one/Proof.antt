@@ -17,21 +17,18 @@ with_one_spec =
     (λ c κs. search rules)
     (λ c κs. search rules)
     (λ c κs. search rules)
-    (λ c κs. search rules)
     (λ c. rw c.before.match.keys1 c.bare.ensures)
     (λ c. rw c.before.match.keys2 c.bare2.ensures)
     (λ c. rw c.before.match.keys3 c.bare3.ensures)
     (λ c. rw c.before.match.keys4 c.bare4.ensures)
     (λ c. rw c.before.match.keys5 c.bare5.ensures)
     (λ c. rw c.before.match.keys6 c.bare6.ensures)
-    (λ c. rw c.before.match.keys7 c.bare7.ensures)
     (λ c. let x = c.before.args.letter in let r = c.match.rest in
     rw (
-      ne_eqb x 67 r.0.0.0.0.0.0.1,
-      ne_eqb x 88 r.0.0.0.0.0.1,
-      ne_eqb x 82 r.0.0.0.0.1,
-      ne_eqb x 69 r.0.0.0.1,
-      ne_eqb x 76 r.0.0.1,
-      ne_eqb x 70 r.0.1,
+      ne_eqb x 67 r.0.0.0.0.0.1,
+      ne_eqb x 88 r.0.0.0.0.1,
+      ne_eqb x 82 r.0.0.0.1,
+      ne_eqb x 69 r.0.0.1,
+      ne_eqb x 76 r.0.1,
       ne_eqb x 80 r.1,
     )))

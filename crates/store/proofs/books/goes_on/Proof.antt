@@ -16,11 +16,11 @@ use Rattle.store.proofs.books.goes_on.Tie as tie
 
 -- the variants of Answer but Refused, by their place in its declaration
 abbrev others : List ℕ
-others = 0 ∷ 1 ∷ 2 ∷ 3 ∷ 4 ∷ 5 ∷ 6 ∷ 7 ∷ 8 ∷ 9 ∷ 10 ∷ 11 ∷ 12 ∷ 13 ∷ []
+others = 0 ∷ 1 ∷ 2 ∷ 3 ∷ 4 ∷ 5 ∷ 6 ∷ 7 ∷ 8 ∷ 9 ∷ 10 ∷ 11 ∷ 12 ∷ []
 
 others-accepted : (a : Answer) → OneOf others (tag_of the_type a) → accepted a ≡ true
 others-accepted = refused-or (λ a. OneOf others (tag_of the_type a) → accepted a ≡ true)
-    (λ r h. absurd (miss others 14 tt h)) (λ a t h. t)
+    (λ r h. absurd (miss others 13 tt h)) (λ a t h. t)
 
 returns : tie.Need-returns
 returns c = rw (c.enum_told.given.1, refused c.enum_told.given.0.0)

@@ -8,7 +8,7 @@ use types.Run.{OneOf, miss}
 use borrow.Author.Rules.{rules}
 use Rattle.rules.specs.declared.Clock.{Clock}
 use Rattle.rules.specs.declared.ManagerCall.{ManagerCall}
-use Rattle.rules.specs.declared.ManagerCall.TheVariants.{Begin, Commit, BeginRo, EndRo, AdvanceLse, ConfirmFlush}
+use Rattle.rules.specs.declared.ManagerCall.TheVariants.{Begin, Commit, BeginRo, EndRo, AdvanceLse}
 use Rattle.rules.specs.declared.RwTxns.{RwTxns}
 use Rattle.rules.specs.contracts.ManagerCall.{the_type}
 use Rattle.store.specs.Kept.{reached_by}
@@ -17,7 +17,7 @@ use Rattle.store.proofs.books.reached.Tie as tie
 
 -- the variants but Commit, by their place in the declaration
 abbrev others : List ℕ
-others = 0 ∷ 2 ∷ 3 ∷ 4 ∷ 5 ∷ []
+others = 0 ∷ 2 ∷ 3 ∷ 4 ∷ []
 
 others-stay : (c : Clock) (ts : RwTxns) (call : ManagerCall) → OneOf others (tag_of the_type call)
     → c.lce ≡ reached_by c ts call
@@ -26,7 +26,6 @@ others-stay c ts (Commit i) h = absurd (miss others 1 tt h)
 others-stay c ts (BeginRo e) h = refl
 others-stay c ts (EndRo t) h = refl
 others-stay c ts (AdvanceLse t) h = refl
-others-stay c ts (ConfirmFlush e) h = refl
 
 returns : tie.Need-returns
 returns c = let a = c.before.args in others-stay a.clock a.ts a.call c.match.keys2
