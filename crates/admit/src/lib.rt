@@ -1,4 +1,5 @@
 // What every call on one partition asks first: 5 and 1, in 01's order ("Refusals that come from the state").
+#![tactic(auto)]
 ghost use Rattle.std.specs.Prelude.{◌≡◌};
 ghost use Rattle.admit.specs.Admit.{admitted};
 
@@ -6,7 +7,7 @@ use rules::limits::PARTITIONS_MAX;
 use rules::{Partition, Partitions, Refusal};
 
 // The partition, or why the call is refused.
-#[derive(Drop)]
+#[derive(Clone, Copy)]
 pub enum Admitted {
     To(Partition),
     Not(Refusal),

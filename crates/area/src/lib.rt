@@ -1,5 +1,6 @@
 // Areas (01 "Lots"): where the rows and the entries of each of the nine stand among those of all, and one area's
 // entries read out of those lent.
+#![tactic(auto)]
 ghost use Rattle.std.specs.Prelude.{◌≡◌};
 ghost use Rattle.rules.specs.Limits.{rows_max, entries_max};
 ghost use Rattle.area.specs.Area.{base_of, place_at};
@@ -11,7 +12,7 @@ use rules::{Entry, Partition, Partitions};
 
 // The entries of one partition (01: lot), those in use first.
 #[repr(C)]
-#[derive(Drop)]
+#[derive(Clone, Copy)]
 pub struct Area {
     pub at: [Entry; ENTRIES_MAX],
     pub count: usize,

@@ -1,5 +1,6 @@
 // A checkpoint (02: round) as bytes on lent slices. 02 (v): a header (02: table of contents), then the rows of each
 // partition (01: lot), all numbers low byte first.
+#![tactic(auto)]
 use rules::limits::PARTITIONS_MAX;
 
 mod number;
@@ -10,7 +11,7 @@ pub mod write;
 pub const HEADER_SIZE: usize = 24;
 
 // A header: its epoch, its row counts, and where its bodies begin in the file.
-#[derive(Drop)]
+#[derive(Clone, Copy)]
 pub struct Header {
     pub epoch: u64,
     pub counts: [usize; PARTITIONS_MAX],
@@ -19,7 +20,7 @@ pub struct Header {
 
 // The header of the last whole checkpoint of a file, one of epoch 0 without rows where there is none, or where a header
 // may not stand where it does: then the file is corrupt (02: 11).
-#[derive(Drop)]
+#[derive(Clone, Copy)]
 pub struct Found {
     pub corrupt: bool,
     pub header: Header,

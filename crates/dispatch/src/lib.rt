@@ -1,5 +1,6 @@
 // Every call by one function: a command in, the public call that it names, the answer out. What it leaves is rules'
 // step.
+#![tactic(auto)]
 ghost use Rattle.std.specs.Prelude.{◌≡◌};
 ghost use Rattle.rules.specs.Step.{step, call_of};
 ghost use Rattle.store.specs.Kept.{store_of};
@@ -10,7 +11,7 @@ use rules::limits::ENTRIES_LENT;
 use rules::{Answer, Command, Entry, Kept, Reader, State};
 
 // What a call answers, the books and the entries after it.
-#[derive(Drop)]
+#[derive(Clone, Copy)]
 pub struct Turned {
     pub answer: Answer,
     pub state: State,

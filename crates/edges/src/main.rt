@@ -1,6 +1,7 @@
 // The cases at the edges (01 "At the edges", and the refusals), read from standard input: session lines, and lines of
 // small letters that do what no session can. model/src/bin/edges.rs says what each letter does, and prints the same
 // lines.
+#![tactic(auto)]
 use lent::Table;
 use libc::{STDIN_FILENO, STDOUT_FILENO};
 use places::in_use;
@@ -40,7 +41,7 @@ fn wide(b: u8) -> u64 {
 }
 
 // The store after a line, and how many bytes of its answer are left to send.
-#[derive(Drop)]
+#[derive(Clone, Copy)]
 struct Said {
     state: State,
     table: Table,
@@ -57,7 +58,7 @@ fn silent(state: State, table: Table) -> Said {
 }
 
 // The store after a call, and its answer in 01's numbers.
-#[derive(Drop)]
+#[derive(Clone, Copy)]
 struct Done {
     state: State,
     table: Table,
@@ -515,7 +516,7 @@ fn say(
 }
 
 // The store after a line, and where the next begins; 0 where there is none.
-#[derive(Drop)]
+#[derive(Clone, Copy)]
 struct Stepped {
     state: State,
     table: Table,

@@ -9,7 +9,7 @@ const LAST_PLACE: usize = WRITERS_MAX - 1;
 // The last place of a dep of the first transaction.
 const LAST_DEP: usize = DEPS_MAX - 1;
 
-#[derive(Drop)]
+#[derive(Clone, Copy)]
 pub(crate) struct Poked {
     pub state: State,
     pub table: Table,

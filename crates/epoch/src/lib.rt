@@ -1,5 +1,6 @@
 // Epochs: the range that making new takes, one beside another, and the clock: its step, and whether it is sound.
 // 01 "The books"; 004 III-B "EC".
+#![tactic(auto)]
 pub mod tick;
 
 ghost use Rattle.std.specs.Prelude.{◌≡◌, suc, min, ◌-◌, eqb};
@@ -11,13 +12,13 @@ use rules::Clock;
 use rules::limits::LAST_EPOCH;
 
 // The name of a read-write transaction (01: load).
-#[derive(Drop)]
+#[derive(Clone, Copy)]
 pub struct Epoch {
     pub number: u64,
 }
 
 // What a starting epoch is taken for.
-#[derive(Drop)]
+#[derive(Clone, Copy)]
 pub enum Start {
     At(Epoch),
     OutOfRange,
@@ -82,7 +83,7 @@ pub fn clock_ok(c: Clock) -> bool
 }
 
 // What the clock hands out, and the clock after it.
-#[derive(Drop)]
+#[derive(Clone, Copy)]
 pub struct Ticked {
     pub epoch: u64,
     pub clock: Clock,

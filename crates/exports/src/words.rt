@@ -11,7 +11,7 @@ use rules::{Answer, Kept, Partitions, State};
 // the lent rows, from row `from` on; 0 and 0 for another call. The books stand first, so that a compiler can build them
 // where the caller wants them.
 #[repr(C)]
-#[derive(Drop)]
+#[derive(Clone, Copy)]
 pub struct Replied {
     pub state: State,
     pub number: u64,
@@ -23,7 +23,7 @@ pub struct Replied {
 
 // What a scan or a save (02 (v)) replies: it leaves the books as they were.
 #[repr(C)]
-#[derive(Drop)]
+#[derive(Clone, Copy)]
 pub struct Seen {
     pub number: u64,
     pub value: u64,
@@ -31,7 +31,7 @@ pub struct Seen {
 }
 
 // Some of the lent rows.
-#[derive(Drop)]
+#[derive(Clone, Copy)]
 pub struct Place {
     pub from: usize,
     pub count: usize,

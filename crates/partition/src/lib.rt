@@ -1,5 +1,6 @@
 // Partitions (01: lots) over tables kept by value: append and clear. 01 "Lots"; 004 III-C 1, 2.
 // What a call writes into the lent areas is one entry and a batch of rows; a plan says which and where.
+#![tactic(auto)]
 use rules::Entry;
 
 pub mod append;
@@ -7,7 +8,7 @@ pub mod areas;
 pub mod rows;
 
 // What there is no room for: the rows (01: 8), an entry that is needed (01: 9).
-#[derive(Drop)]
+#[derive(Clone, Copy)]
 pub struct Full {
     pub rows: bool,
     pub entries: bool,
@@ -15,7 +16,7 @@ pub struct Full {
 
 // What an append or a clear writes. Where it is full, or adds nothing, the entry and the row stand past the last, so
 // that nothing is written, and the counts stay.
-#[derive(Drop)]
+#[derive(Clone, Copy)]
 pub struct Plan {
     pub full: Full,
     // the entry to put, and its index among the entries of all areas

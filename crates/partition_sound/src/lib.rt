@@ -1,4 +1,5 @@
 // The part of 01's *sound* that is about lots. 01 "Refusals that come from the state", last paragraph.
+#![tactic(auto)]
 ghost use Rattle.std.specs.Prelude.{◌≡◌, ◌&&◌, leb};
 ghost use Rattle.rules.specs.Limits.{rows_max, entries_max};
 ghost use Rattle.partition_sound.specs.Sound.{epochs_of, epochs_with};
@@ -18,7 +19,7 @@ mod rest;
 
 // Where a partition stands after an entry: its epoch, 0 where it is a delete (01: clearing), its end, whether all are
 // well so far, whether one was a delete, and whether one has an epoch above `low` (Held).
-#[derive(Drop)]
+#[derive(Clone, Copy)]
 pub struct Last {
     pub epoch: u64,
     pub end: usize,
@@ -29,7 +30,7 @@ pub struct Last {
 
 // What an entry's epoch is held against: it lies below EC, up to LCE it needs no record, and so many of the epochs that
 // are lent beside are those of records. Up to `low` it needs no test.
-#[derive(Drop)]
+#[derive(Clone, Copy)]
 pub struct Held {
     pub ec: u64,
     pub lce: u64,
@@ -40,7 +41,7 @@ pub struct Held {
 // What the test of the lots asks of the books: the clock, with LCE raised to EC where each epoch between has a record;
 // LCE; the epochs of the records; the partitions and their totals; and the epochs above LCE that land by the call, of
 // which there are none but at a commit or a roll back.
-#[derive(Drop)]
+#[derive(Clone, Copy)]
 pub struct Asked {
     pub clock: Clock,
     pub lce: u64,
@@ -53,7 +54,7 @@ pub struct Asked {
 
 // What is found of the partitions so far: the totals once these epochs have landed, and which are whole: they have no
 // delete, and no epoch above `low`, so that a page at `low` or later is shown all their rows.
-#[derive(Drop)]
+#[derive(Clone, Copy)]
 pub struct Landed {
     pub totals: [u64; PARTITIONS_MAX],
     pub whole: [bool; PARTITIONS_MAX],
@@ -61,7 +62,7 @@ pub struct Landed {
 }
 
 // What the test finds: the same of all partitions, and whether all is well.
-#[derive(Drop)]
+#[derive(Clone, Copy)]
 pub struct Verdict {
     pub totals: [u64; PARTITIONS_MAX],
     pub whole: [bool; PARTITIONS_MAX],
@@ -70,7 +71,7 @@ pub struct Verdict {
 }
 
 // The epochs of the read-write transactions (01: loads) that have a record.
-#[derive(Drop)]
+#[derive(Clone, Copy)]
 struct Epochs {
     at: [u64; WRITERS_MAX],
     count: usize,

@@ -1,4 +1,5 @@
 // Purge (01 "Lots"), decided by value: what is refused or skipped, and what a rewrite puts into the spare area.
+#![tactic(auto)]
 ghost use Rattle.std.specs.Prelude.{◌≡◌};
 ghost use Rattle.rules.specs.Limits.{entries_max};
 ghost use Rattle.lent.specs.Shapes.{saved};
@@ -15,7 +16,7 @@ use txn::parts_sound;
 // What a purge answers, and what it is to write: the partition at its place with so many rows, in the spare area; the
 // entries in use of `new` at index `entry` on; and the rows that the plan keeps of `old`, which lie from row `from` on,
 // at row `to` on. The index `past` is past the end, as is a place or a row where nothing is to be written.
-#[derive(Drop)]
+#[derive(Clone, Copy)]
 pub struct Purge {
     pub answer: Answer,
     pub place: usize,

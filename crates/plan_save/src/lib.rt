@@ -1,4 +1,5 @@
 // Saving a checkpoint (02: round), decided by value: what is refused, and the rows that are written. 02 (v).
+#![tactic(auto)]
 ghost use Rattle.std.specs.Prelude.{◌≡◌, ◌*◌, ◌≤◌, length};
 ghost use Rattle.rules.specs.Limits.{partitions_max};
 ghost use Rattle.rules.specs.Calls.{within};
@@ -27,7 +28,7 @@ pub const WORDS_MAX: usize = PARTITIONS_MAX * RUNS_MAX;
 // What a save answers, and what it writes: the header of this epoch and these counts, then the rows of the runs, of
 // which partition p's stand from row bases[p] on. size is how many bytes they are, 0 where it is refused and nothing is
 // written.
-#[derive(Drop)]
+#[derive(Clone, Copy)]
 pub struct Save {
     pub answer: Answer,
     pub epoch: u64,
@@ -38,7 +39,7 @@ pub struct Save {
 }
 
 // How many rows each partition has, and all.
-#[derive(Drop)]
+#[derive(Clone, Copy)]
 struct Sizes {
     counts: [usize; PARTITIONS_MAX],
     rows: usize,

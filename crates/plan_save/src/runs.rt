@@ -18,13 +18,13 @@ use totals::{Cut, Reach, cut_of, from_of, to_of};
 
 // A run is one word: 65,536 times the row of its partition that it begins at, and the row that it ends before. Those of
 // partition p stand from place 33 * p on, and behind them a word without rows.
-#[derive(Drop)]
+#[derive(Clone, Copy)]
 pub struct Runs {
     pub at: [u32; WORDS_MAX],
 }
 
 // The run that may still grow: it goes to place `at`, and has the rows `from` up to `end` so far.
-#[derive(Drop)]
+#[derive(Clone, Copy)]
 pub struct Pending {
     pub at: usize,
     pub from: usize,

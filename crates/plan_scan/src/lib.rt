@@ -1,4 +1,5 @@
 // Scans (01 "Who sees a row"), decided by value: what is refused, and the bytes that a call writes.
+#![tactic(auto)]
 ghost use Rattle.std.specs.Prelude.{◌≡◌};
 ghost use Rattle.plan_scan.specs.Scan.{refused_look, look_at, rw_look, ro_look, copied};
 
@@ -14,7 +15,7 @@ use visible::View;
 const BITMAP_MAX: usize = ROWS_MAX / 8;
 
 // What a scan answers, and the first count bytes that it writes.
-#[derive(Drop)]
+#[derive(Clone, Copy)]
 pub struct Look {
     pub answer: Answer,
     pub bits: [u8; BITMAP_MAX],

@@ -1,4 +1,5 @@
 // Append and clear (01 "Lots"), decided by value: what is refused, and the entry and the rows that a call writes.
+#![tactic(auto)]
 ghost use Rattle.std.specs.Prelude.{◌≡◌};
 ghost use Rattle.partition.specs.Rows.{put_rows};
 ghost use Rattle.plan_write.specs.Write.{refused_write, planned_write, append_at, append_write, clear_at, clear_write};
@@ -13,7 +14,7 @@ use txn_find::{Found, find_writer};
 
 // What a call answers, and what it is to write: the partition at its place, a new entry at an index, the end of an
 // entry that stands at another, and a batch at a row. A place, an index and a row past the end mean nothing.
-#[derive(Drop)]
+#[derive(Clone, Copy)]
 pub struct Write {
     pub answer: Answer,
     pub place: usize,

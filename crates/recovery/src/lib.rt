@@ -1,4 +1,5 @@
 // The store to and from a file of checkpoints (02: rounds). 02 (v).
+#![tactic(auto)]
 ghost use Rattle.rules.specs.Step.{step, save, recover};
 ghost use Rattle.store.specs.Kept.{store_of, Left, Showed};
 
@@ -10,7 +11,7 @@ mod restore;
 // What a recovery answers, and what it is to write: of each partition (01: lot) so many rows, whose body begins at an
 // index of the file and which weigh so much, and one entry of the epoch where there are rows. The books are made new at
 // `next`, one epoch above; it is 0 where the call is refused. The index `past` is past the end of the entries.
-#[derive(Drop)]
+#[derive(Clone, Copy)]
 pub struct Restored {
     pub answer: Answer,
     pub epoch: u64,

@@ -16,7 +16,7 @@ use session_line::turn::{
 };
 
 // The store after the lines, how many bytes of input they were, and how many bytes answer them.
-#[derive(Drop)]
+#[derive(Clone, Copy)]
 pub struct Replayed {
     pub state: State,
     pub table: Table,

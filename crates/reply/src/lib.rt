@@ -1,4 +1,5 @@
 // What an answer says in 01's numbers. The one table: reply_of, rules/specs/Answers.antt.
+#![tactic(auto)]
 ghost use Rattle.std.specs.Prelude.{◌≡◌};
 ghost use Rattle.rules.specs.Answers.{refusal_number, reply_of};
 ghost use Rattle.reply.specs.Reply.{words_of, accepted};
@@ -9,7 +10,7 @@ use rules::{Answer, Refusal};
 pub const VALUES_MAX: usize = 2;
 
 // A number and values[..count]; behind these stands 0.
-#[derive(Drop)]
+#[derive(Clone, Copy)]
 pub struct ReplyWords {
     pub number: u64,
     pub values: [u64; VALUES_MAX],

@@ -17,7 +17,7 @@ const ROWS: u64 = 0;
 const DELETE: u64 = 1;
 
 // The last entry kept so far, its index, how many are kept and how many rows they have.
-#[derive(Drop)]
+#[derive(Clone, Copy)]
 pub(crate) struct Last {
     pub place: usize,
     pub count: usize,

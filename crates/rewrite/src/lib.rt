@@ -1,4 +1,5 @@
 // Roll back and purge over the entries of one partition. 01 "Lots", Roll back, Purge; 004 III-C 4, 5.
+#![tactic(auto)]
 use area::Area;
 
 pub mod copying;
@@ -7,7 +8,7 @@ pub mod keep;
 
 // The entries that are kept, and how many rows they have.
 #[repr(C)]
-#[derive(Drop)]
+#[derive(Clone, Copy)]
 pub struct Rewritten {
     pub area: Area,
     pub rows: usize,

@@ -29,8 +29,8 @@ module _ (i : ℕ) (deps : List ℕ) (j : ℕ) where
 
   pub one_category : ones (categories i deps j) ≡ 1
   one_category = by_order
-      (λ o l e. rw (o, l, e, e))
-      (λ o l e. rw (o, l, e, e))
+      (λ o l e. rw (o, l, e))
+      (λ o l e. rw (o, l, e))
       (λ o l e. rw (o, l, e) (split (elem j deps) (λ d. rw d) (λ d. rw d)))
 
   -- seen is its own, or earlier and not in deps

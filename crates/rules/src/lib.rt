@@ -1,6 +1,7 @@
 // The types of the store. Every field of lent and kept state is a number, so that any word may stand in it:
 // a word out of place is refused as unsound (01 "Refusals", 5) and never loaded as a bool or an enum. Fields lie in
 // the order written, each 8 bytes wide and without padding, for callers in C and Rust.
+#![tactic(auto)]
 pub mod limits;
 
 use limits::{DEPS_ALL, PARTITIONS_MAX, READERS_MAX, WRITERS_MAX};
@@ -8,7 +9,7 @@ use limits::{DEPS_ALL, PARTITIONS_MAX, READERS_MAX, WRITERS_MAX};
 // The clock of 01's books: the next epoch (EC), the latest committed epoch (LCE), the latest safe epoch
 // (LSE).
 #[repr(C)]
-#[derive(Drop)]
+#[derive(Clone, Copy)]
 pub struct Clock {
     pub ec: u64,
     pub lce: u64,
@@ -18,7 +19,7 @@ pub struct Clock {
 // A read-write transaction (01: load). waiting is 0 while it is open, and 1 once it is committed above LCE. deps is
 // how many epochs were open when it began (01: deps); the epochs stand in the books' table.
 #[repr(C)]
-#[derive(Drop)]
+#[derive(Clone, Copy)]
 pub struct RwTxn {
     pub epoch: u64,
     pub waiting: u64,
@@ -26,7 +27,7 @@ pub struct RwTxn {
 }
 
 #[repr(C)]
-#[derive(Drop)]
+#[derive(Clone, Copy)]
 pub struct RwTxns {
     pub at: [RwTxn; WRITERS_MAX],
     pub count: usize,
@@ -34,7 +35,7 @@ pub struct RwTxns {
 
 // A read-only transaction (01: page).
 #[repr(C)]
-#[derive(Drop)]
+#[derive(Clone, Copy)]
 pub struct RoTxn {
     pub ticket: u64,
     pub epoch: u64,
@@ -42,7 +43,7 @@ pub struct RoTxn {
 
 // next is the ticket that is handed out next.
 #[repr(C)]
-#[derive(Drop)]
+#[derive(Clone, Copy)]
 pub struct RoTxns {
     pub at: [RoTxn; READERS_MAX],
     pub count: usize,
@@ -51,7 +52,7 @@ pub struct RoTxns {
 
 // A partition (01: lot): its area, and how many rows and entries it has there.
 #[repr(C)]
-#[derive(Drop)]
+#[derive(Clone, Copy)]
 pub struct Partition {
     pub area: usize,
     pub rows: usize,
@@ -59,7 +60,7 @@ pub struct Partition {
 }
 
 #[repr(C)]
-#[derive(Drop)]
+#[derive(Clone, Copy)]
 pub struct Partitions {
     pub at: [Partition; PARTITIONS_MAX],
     pub spare: usize,
@@ -69,7 +70,7 @@ pub struct Partitions {
 // entries are lent. deps is one table for all records: row i, its words 31 * i to 31 * i + 30, belongs to record i.
 // totals is of each partition what a page at LCE is shown, in milligrams (02 (iii)).
 #[repr(C)]
-#[derive(Drop)]
+#[derive(Clone, Copy)]
 pub struct State {
     pub clock: Clock,
     pub writers: RwTxns,
@@ -82,7 +83,7 @@ pub struct State {
 // An entry of a partition: the epoch, how many rows the partition holds after it, and a mark: 0 rows, 1
 // delete (01: clearing).
 #[repr(C)]
-#[derive(Drop)]
+#[derive(Clone, Copy)]
 pub struct Entry {
     pub epoch: u64,
     pub end: usize,
@@ -90,14 +91,14 @@ pub struct Entry {
 }
 
 // Who scans: a read-write transaction by its epoch, or a read-only one by its ticket.
-#[derive(Drop)]
+#[derive(Clone, Copy)]
 pub enum Reader {
     Rw(u64),
     Ro(u64),
 }
 
 // Why a call is refused. specs/Answers.antt has 01's number for each.
-#[derive(Drop)]
+#[derive(Clone, Copy)]
 pub enum Refusal {
     UnknownPartition,
     NotOpen,
@@ -113,7 +114,7 @@ pub enum Refusal {
 }
 
 // What a call answers. specs/Answers.antt has 01's number and values for each case.
-#[derive(Drop)]
+#[derive(Clone, Copy)]
 pub enum Answer {
     Created,
     Begun { epoch: u64 },
@@ -132,14 +133,14 @@ pub enum Answer {
 }
 
 // What a call answers, and the books after it.
-#[derive(Drop)]
+#[derive(Clone, Copy)]
 pub struct Kept {
     pub state: State,
     pub answer: Answer,
 }
 
 // The calls that change nothing but the manager (01: the books without the lots).
-#[derive(Drop)]
+#[derive(Clone, Copy)]
 pub enum ManagerCall {
     Begin,
     Commit { txn: u64 },
@@ -151,7 +152,7 @@ pub enum ManagerCall {
 // A call as a number of words: what the dispatcher takes, and but for the last two what a session's line names. The
 // rows of an append are lent beside it, and bytes: the bitmap of a scan, the output of a save (02 (v)), the file of a
 // recovery.
-#[derive(Drop)]
+#[derive(Clone, Copy)]
 pub enum Command {
     Create { start: u64 },
     Manage(ManagerCall),

@@ -1,6 +1,7 @@
 // A session on standard input and output: a call a line, and a line that answers it. 01 "A session".
 // No contract can say what is read or written. So the loop does nothing but read, take a turn and write; what a turn
 // makes of the bytes is said of slices (src/turn.rt).
+#![tactic(auto)]
 ghost use Rattle.std.specs.Prelude.{◌≡◌, ◌+◌, ◌≤◌, length, take};
 ghost use Rattle.store.specs.Kept.{store_of};
 ghost use Rattle.serve.specs.Turn.{Roomy, Opened};
@@ -15,7 +16,7 @@ use session_line::limits::NUMBERS_MAX;
 mod turn;
 
 // How a session ended: all input read and all answers written, or what failed.
-#[derive(Drop)]
+#[derive(Clone, Copy)]
 enum Ended {
     All,
     Unread,
@@ -50,7 +51,7 @@ fn send(s: Session, out: &[u8]) -> bool
 }
 
 // How a session ended, and how it was left.
-#[derive(Drop)]
+#[derive(Clone, Copy)]
 struct Served {
     ended: Ended,
     session: Session,

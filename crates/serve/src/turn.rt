@@ -11,7 +11,7 @@ use rules::State;
 // A session between two turns: the store; which bytes of the input buffer are held, from `from` to `end`; how many
 // bytes of the other buffer are answers to write out; whether more input is wanted, since no line that is held is
 // whole; whether the input has ended; how many turns are left.
-#[derive(Drop)]
+#[derive(Clone, Copy)]
 pub struct Session {
     pub state: State,
     pub table: Table,
@@ -24,7 +24,7 @@ pub struct Session {
 }
 
 // What a read brought: so many bytes, or it failed. None and no failure: the input has ended.
-#[derive(Drop)]
+#[derive(Clone, Copy)]
 pub struct Got {
     pub count: usize,
     pub failed: bool,

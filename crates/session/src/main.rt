@@ -4,6 +4,7 @@
 // 16,384 bytes and more, a line over the end of each buffer, and a last line without an end. stdout is what the model
 // answers: cargo build --release --offline --locked --manifest-path model/Cargo.toml --target-dir target/cargo, then
 // target/cargo/release/session <crates/session/stdin >crates/session/stdout.
+#![tactic(auto)]
 fn main() {
     serve::nizgulk_session();
 }

@@ -16,7 +16,7 @@ use rules::{Command, Kept, State};
 use session_text::Parsed;
 
 // Where the next line begins and ends, where its answer goes, and whether there is one to answer.
-#[derive(Drop)]
+#[derive(Clone, Copy)]
 pub struct Cursor {
     pub used: usize,
     pub end: usize,

@@ -1,4 +1,5 @@
 // The lines of a session: a line as a call, and an answer as a line. 01 "A session".
+#![tactic(auto)]
 use crate::call::{from_of, parse_letter, parse_numbers};
 use rules::Command;
 
@@ -17,7 +18,7 @@ pub use call::letter_of;
 pub use line::print_line;
 
 // What a line is: a call, with so many rows beside it, or none.
-#[derive(Drop)]
+#[derive(Clone, Copy)]
 pub enum Parsed {
     Call { command: Command, rows: usize },
     Bad,

@@ -10,7 +10,7 @@ const VALUE_MAX: u64 = 1844674407370955161;
 const LAST_DIGIT: u64 = 5;
 
 // The bytes passed: how many numbers ended, and of the last its value so far and whether it has a digit.
-#[derive(Drop)]
+#[derive(Clone, Copy)]
 pub struct Passed {
     pub count: usize,
     pub value: u64,
@@ -18,7 +18,7 @@ pub struct Passed {
 }
 
 // What one byte more makes of them.
-#[derive(Drop)]
+#[derive(Clone, Copy)]
 pub enum Next {
     To(Passed),
     Not,

@@ -1,5 +1,6 @@
 // What the rows of a partition (01: lot) weigh, of some epochs, and beside them of some later ones, which land (02
 // (iii)): the greatest clearing among either is found first, then the rows that are shown by it are weighed, each once.
+#![tactic(auto)]
 ghost use Rattle.std.specs.Prelude.{◌≡◌};
 ghost use Rattle.totals.specs.Reach.{cut_of, cuts_of};
 ghost use Rattle.totals.specs.Places.{from_of, to_of};
@@ -12,7 +13,7 @@ pub mod shown;
 pub mod weigh;
 
 // The epochs above `over` and up to `high`, but for `gone`.
-#[derive(Drop)]
+#[derive(Clone, Copy)]
 pub struct Reach {
     pub over: u64,
     pub high: u64,
@@ -21,7 +22,7 @@ pub struct Reach {
 
 // The greatest clearing of a partition among such epochs: its epoch, and the row that the last one of it stands at;
 // both 0 with none.
-#[derive(Drop)]
+#[derive(Clone, Copy)]
 pub struct Top {
     pub epoch: u64,
     pub edge: usize,
@@ -29,7 +30,7 @@ pub struct Top {
 
 // Which rows are shown by it: those of epochs up to `high`, but for `gone`, and above `low`, or of `low` from row
 // `edge` on. The rows of the partition stand from row `base` on.
-#[derive(Drop)]
+#[derive(Clone, Copy)]
 pub struct Cut {
     pub low: u64,
     pub edge: usize,
@@ -39,7 +40,7 @@ pub struct Cut {
 }
 
 // Of the epochs that are asked for, and of the later ones that land.
-#[derive(Drop)]
+#[derive(Clone, Copy)]
 pub struct Cuts {
     pub shown: Cut,
     pub lands: Cut,
@@ -47,7 +48,7 @@ pub struct Cuts {
 
 // Where the weighing stands: the rows from `from` up to `end` are shown and not yet weighed, `sum` is what was weighed
 // before them; `more` is what the rows that land weigh.
-#[derive(Drop)]
+#[derive(Clone, Copy)]
 pub struct Tally {
     pub from: usize,
     pub end: usize,

@@ -13,21 +13,21 @@ use rules::{Clock, RwTxn, RwTxns};
 use txn_find::no_rw;
 
 // What a close changes beside the table of deps, which is lent (01: the books, without the lots).
-#[derive(Drop)]
+#[derive(Clone, Copy)]
 pub struct Books {
     pub clock: Clock,
     pub writers: RwTxns,
 }
 
 // The books once LCE is settled, and the oldest open epoch, or 0.
-#[derive(Drop)]
+#[derive(Clone, Copy)]
 pub struct Settled {
     pub books: Books,
     pub oldest: u64,
 }
 
 // LCE once settled, how many records wait no longer, and the epoch of the first open one, or 0.
-#[derive(Drop)]
+#[derive(Clone, Copy)]
 struct Reached {
     lce: u64,
     count: usize,

@@ -1,5 +1,6 @@
 // Commit and roll back, on the books by value, and where LCE then lies. 01 "The books", Commit, roll back; 02 (i);
 // 004 III-B "LCE".
+#![tactic(auto)]
 mod close;
 
 ghost use Rattle.std.specs.Prelude.{◌&&◌, not, cond, ◌≡◌, [], map, eqb, take};
@@ -20,7 +21,7 @@ use txn::parts_sound;
 use txn_find::{Found, find_writer};
 
 // What closing a transaction answers, and what it changes beside the table of deps, which is lent.
-#[derive(Drop)]
+#[derive(Clone, Copy)]
 struct Ended {
     answer: Answer,
     clock: Clock,

@@ -1,4 +1,5 @@
 // Where a transaction stands in the manager. 01 "Refusals that come from the input", 2.
+#![tactic(auto)]
 ghost use Rattle.std.specs.Prelude.{◌≡◌, ◌&&◌, eqb};
 ghost use Rattle.rules.specs.Manager.{no_rw, no_ro};
 ghost use Rattle.txn_find.specs.Find.{writer_at, reader_at, row_at};
@@ -8,7 +9,7 @@ use rules::limits::{DEPS_MAX, READERS_MAX, WRITERS_MAX};
 use rules::{RoTxn, RoTxns, RwTxn, RwTxns};
 
 // The place of a record, or that there is none.
-#[derive(Drop)]
+#[derive(Clone, Copy)]
 pub enum Found {
     At(usize),
     Nothing,

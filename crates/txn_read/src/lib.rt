@@ -1,4 +1,5 @@
 // Opening and closing a page, on the books by value. 01 "The books", Open a page; 004 III-A, RO transactions.
+#![tactic(auto)]
 mod read_only;
 
 ghost use Rattle.std.specs.Prelude.{◌&&◌, ◌≡◌, ◌≤◌, take};
@@ -48,7 +49,7 @@ pub fn begin_ro(state: State, rest: bool, e: u64) -> Kept
 }
 
 // What closing a page answers, and the records after it.
-#[derive(Drop)]
+#[derive(Clone, Copy)]
 struct Ended {
     answer: Answer,
     readers: RoTxns,

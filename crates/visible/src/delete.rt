@@ -15,7 +15,7 @@ use rules::Entry;
 use rules::limits::ENTRIES_MAX;
 
 // Its epoch, and one more than the index of its last entry; both 0 with none.
-#[derive(Drop)]
+#[derive(Clone, Copy)]
 pub struct Top {
     pub epoch: u64,
     pub at: usize,

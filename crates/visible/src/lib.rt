@@ -1,4 +1,5 @@
 // Who sees a row, and what a scan writes. 01 "Who sees a row"; 004 III-C 3.
+#![tactic(auto)]
 use crate::ends::ends_ok;
 use crate::write::write;
 use area::Area;
@@ -20,7 +21,7 @@ ghost use Rattle.visible.specs.Scan.{scanned, bitmap_scanned};
 // A reader: rw is 1 for a read-write transaction (01: load) of this epoch, whose deps are lent beside it, the epochs
 // that were open when it began; else it is a read-only one (01: page) at this epoch, and what is lent is not read.
 #[repr(C)]
-#[derive(Drop)]
+#[derive(Clone, Copy)]
 pub struct View {
     pub epoch: u64,
     pub rw: u64,
@@ -38,7 +39,7 @@ pub fn page(epoch: u64) -> View
 
 // How many rows the reader is shown.
 #[repr(C)]
-#[derive(Drop)]
+#[derive(Clone, Copy)]
 pub struct Scanned {
     pub ones: usize,
 }

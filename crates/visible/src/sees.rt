@@ -8,7 +8,7 @@ use crate::View;
 
 // Where an epoch stands to a read-write transaction (01: load): the four cases of 02 (iv). Of the categories in 004
 // IV-C the three of later epochs are one here. specs/Category.antt has the test of each.
-#[derive(Drop)]
+#[derive(Clone, Copy)]
 enum Category {
     Own,
     Later,

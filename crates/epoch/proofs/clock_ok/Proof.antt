@@ -9,5 +9,8 @@ use Rattle.epoch.proofs.clock_ok.Tie as tie
 
 pub clock_ok_spec : {M : Type 1} → statement M
 unfolding clock_ok last_epoch
-clock_ok_spec = tie.close (tie.spec (λ c. search tests) (λ c. search rules) (λ c. search tests) (λ c. search tests)
+clock_ok_spec = tie.close (tie.spec (λ c. search tests)
+    (λ c. search rules)
+    (λ c. search tests)
+    (λ c. search tests)
     (λ c. search tests))

@@ -14,12 +14,14 @@ one_apart x y h = split-eq (suc x) y
     (λ e. eq-eqb (y - x) 1 (omega arith) ∙ sym (eq-eqb (suc x) y e))
     (λ n. ne_eqb (y - x) 1 (λ e. n (omega arith)) ∙ sym (ne_eqb (suc x) y n))
 
-returns : tie.Need-returns
+returns : tie.Need-returns-then-y-x
 returns c = let a = c.before.args in let h : a.y ≤ a.x = omega arith in
     sym (ne_eqb (suc a.x) a.y (λ e. omega arith))
 
-returns_2 : tie.Need-returns-2
+returns_2 : tie.Need-returns
 returns_2 c = one_apart c.before.args.x c.before.args.y (omega arith)
 
 pub follows_spec : {M : Type 1} → statement M
-follows_spec = tie.close (tie.spec returns (λ c. search rules) returns_2)
+follows_spec = tie.close (tie.spec returns
+    (λ c. search rules)
+    returns_2)

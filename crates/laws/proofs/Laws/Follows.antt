@@ -3,7 +3,7 @@
 -- In order: Follows, making new, calls on the manager, roll back, append, clear and purge.
 -- Elsewhere: the manager's half (Laws/Tracks.antt), a partition's half (Laws/PartitionFollows.antt).
 -- Assumes nothing.
-use mathlib.Core.Path.{◌≡◌, refl, ◌∙◌, ap}
+use mathlib.Core.Path.{◌≡◌, refl, sym, subst, ◌∙◌, ap}
 use mathlib.Core.Bool.{true, false, cond}
 use mathlib.Core.List.{List, [], ◌∷◌, ◌++◌, map}
 use Prim.Native.Nat.{ℕ, suc, ◌+◌, ◌≤◌, ◌<◌}
@@ -166,7 +166,10 @@ module _ {st : Store} {g : Ledger} (F : Follows st g) where
     ok = k;
     tracks = rw C.manager (tracks-lines F.tracks (set g.lines p ls));
     places = length-set g.lines p ls ∙ F.places;
-    partition = λ q k. rw C.manager (split-eq q p
+    partition = λ q k.
+        let M : Manager → Type 0 = λ m. PartitionFollows m.clock.lse m.clock.ec (alive g) (spans_at q st')
+            (lines_at q (with_lines (set g.lines p ls) g)) in
+        subst M (sym C.manager) (split-eq q p
         (λ e. let n = F.places in rw (e, C.there, get_or-set_same g.lines p ls [] (omega arith)) P)
         (λ ne. rw (C.elsewhere q k ne, get_or-set_other g.lines p q ls [] ne) (F.partition q k)));
   }

@@ -21,9 +21,9 @@ no_part : (old new : List ℕ) (a : Answer) → OneOf others (tag_of the_type a)
 no_part old new = answer-cases (λ a. OneOf others (tag_of the_type a) → live_part old new a ≡ []) (λ r h. refl)
     (λ n h. absurd (miss others 9 tt h)) (λ n h. absurd (miss others 10 tt h)) (λ a o h. o.partless old new)
 
-returns_3 : tie.Need-returns-3
+returns_3 : tie.Need-returns-in_default
 returns_3 c = let a = c.before.before.before.before.args in
-    c.front3.ensures ∙ sym (no_part a.old.now a.new.now a.answer c.before.match.keys3)
+    c.front-in_default.ensures ∙ sym (no_part a.old.now a.new.now a.answer c.before.in_default.in_default-own.keys3)
 
 pub in_force_spec : {M : Type 1} → statement M
 in_force_spec =
@@ -34,6 +34,6 @@ in_force_spec =
     (λ c. search rules)
     (λ c κs. search rules)
     (λ c κs. search rules)
-    (λ c. c.front.ensures ∙ rw c.before.before.answer.given.1)
-    (λ c. c.front2.ensures ∙ rw c.before.before.answer2.given.1)
+    (λ c. c.front.ensures ∙ rw c.before.in-Rewritten.is)
+    (λ c. c.front-in-Skipped.ensures ∙ rw c.before.in-Skipped.is)
     returns_3)

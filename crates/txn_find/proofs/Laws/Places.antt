@@ -18,10 +18,10 @@ use Rattle.rules.specs.contracts.RoTxns as ros-type
 use Rattle.rules.specs.contracts.State as state-type
 
 pub writers_32 : (x : RwTxns) (vs : List Val) → Is (row rws-type.the_type) x vs → length x.at ≡ writers_max
-writers_32 x vs g = sym (length-map x.at (rw-type.the_type).to) ∙ g.1.1.0.1.0.1
+writers_32 x vs g = g.1.1.0.1.0.1
 
 pub readers_32 : (x : RoTxns) (vs : List Val) → Is (row ros-type.the_type) x vs → length x.at ≡ readers_max
-readers_32 x vs g = sym (length-map x.at (ro-type.the_type).to) ∙ g.1.1.0.1.0.1
+readers_32 x vs g = g.1.1.0.1.0.1
 
 pub record Sized (m : Manager) : Type 0 where
   pub writers : length m.writers.at ≡ writers_max
@@ -31,6 +31,6 @@ pub record Sized (m : Manager) : Type 0 where
 pub sized : (s : State) {vs : List Val} → Is (row state-type.the_type) s vs → Sized (manager_in s)
 sized s g = record {
   writers = writers_32 s.writers _ g.1.1.1.0;
-  deps = sym (length-map s.deps (λ v. v)) ∙ g.1.1.1.1.0.1.0.1;
+  deps = g.1.1.1.1.0.1.0.1;
   readers = readers_32 s.readers _ g.1.1.1.1.1.0;
 }

@@ -15,22 +15,22 @@ use Rattle.txn_find.proofs.Laws.Places.{writers_32}
 use Rattle.txn_find.proofs.find_writer.Statement.{statement}
 use Rattle.txn_find.proofs.find_writer.Tie as tie
 
-abbrev invariant_loop : tie.invariant_loop
+abbrev invariant_loop : tie.invariant-loop-j
 invariant_loop i ts n j₀ j = Scan ts.at ts.count writers_max n j
     × (writer_at i ts ≡ find_from (opens_at i) (drop j (take ts.count ts.at)) j)
 
-abbrev decreases_loop : tie.decreases_loop
+abbrev decreases_loop : tie.decreases-loop-j
 decreases_loop i ts n j₀ j = n - j
 
-returns : tie.Need-returns invariant_loop decreases_loop
-returns c = let l = c.before.before.before.loop.invariant in
-    sym (l.1 ∙ rw (scan-next l.0 no_rw (omega arith), said c.before.is-open-at.ensures c.if1.true))
+returns : tie.Need-returns-then-is_open_at invariant_loop decreases_loop
+returns c = let l = c.before.before.before.loop-j.invariant in
+    sym (l.1 ∙ rw (scan-next l.0 no_rw (omega arith), said c.before.is_open_at.ensures c.if-is_open_at.true))
 
-loop-again : tie.Need-loop-preserved invariant_loop decreases_loop
-loop-again c = let l = c.before.before.before.loop.invariant in (
+loop-again : tie.Need-loop-j-preserved invariant_loop decreases_loop
+loop-again c = let l = c.before.before.before.loop-j.invariant in (
   scan-on l.0 (omega arith),
   l.1
-      ∙ rw (scan-next l.0 no_rw (omega arith), said c.before.is-open-at.ensures c.if1.false),
+      ∙ rw (scan-next l.0 no_rw (omega arith), said c.before.is_open_at.ensures c.if-is_open_at.false),
 )
 
 pub find_writer_spec : {M : Type 1} → statement M
@@ -41,7 +41,7 @@ find_writer_spec =
     invariant_loop
     decreases_loop
     (λ c κs. omega arith)
-    (λ c. (scan-start (writers_32 c.before.args.t1 _ c.before.well-formed.0) c.in_use.ensures, refl))
+    (λ c. (scan-start (writers_32 c.before.args.ts _ c.before.well_formed.0) c.in_use-n.ensures, refl))
     (λ c. omega arith)
     (λ c. omega arith)
     (λ c. omega arith)
@@ -51,4 +51,4 @@ find_writer_spec =
     (λ c. omega arith)
     (λ c. omega arith)
     loop-again
-    (λ c. let l = c.before.loop.invariant in sym (l.1 ∙ rw (scan-end l.0 (omega arith)))))
+    (λ c. let l = c.before.loop-j.invariant in sym (l.1 ∙ rw (scan-end l.0 (omega arith)))))

@@ -24,15 +24,15 @@ row n j ds r k e h = let l : deps_max * r + k - deps_max * r ≡ k = omega arith
     rw l (part-least (deps_max * r) deps_max n k ds h
     ∙ ap (λ i. take n (take deps_max (drop (deps_max * i) ds))) e)
 
-returns : tie.Need-returns
-returns c = let u = c.before.before in let a = u.before.before.args in
-    no_row a.n a.j a.deps.now u.in_use.result u.in_use.ensures c.before.if1.true
+returns : tie.Need-returns-then-deps-from
+returns c = let u = c.before in let a = u.before.before.args in
+    no_row a.n a.j a.deps.now c.before.in_use-from.result c.before.in_use-from.ensures c.if-deps-from.true
 
-returns_2 : tie.Need-returns-2
+returns_2 : tie.Need-returns
 returns_2 c = let w = c.before in let v = w.before in let u = v.before.before in let a = u.before.before.args in
-    let end = length a.deps.now - deps_max * u.in_use.result in
-    row a.n a.j a.deps.now u.in_use.result w.in-use3.result u.in_use.ensures
-    (w.in-use3.ensures ∙ ap (λ k. min k end) v.in-use2.ensures)
+    let end = length a.deps.now - deps_max * u.in_use-from.result in
+    row a.n a.j a.deps.now u.in_use-from.result w.in_use-2.result u.in_use-from.ensures
+    (w.in_use-2.ensures ∙ ap (λ k. min k end) v.in_use.ensures)
 
 pub row_of_spec : {M : Type 1} → statement M
 row_of_spec =

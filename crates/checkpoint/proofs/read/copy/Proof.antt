@@ -12,22 +12,22 @@ use Rattle.checkpoint.proofs.Laws.Numbers.{read_next, read-end}
 use Rattle.checkpoint.proofs.read.copy.Statement.{statement}
 use Rattle.checkpoint.proofs.read.copy.Tie as tie
 
-abbrev invariant_loop : tie.invariant_loop
+abbrev invariant_loop : tie.invariant-loop-j
 invariant_loop rows₀ at file from count j₀ rows j =
     (j ≤ count) × (length rows ≡ length rows₀)
     × (over (at + j) (numbers_in 8 (count - j) (drop (from + 8 * j) file)) rows
     ≡ over at (numbers_in 8 count (drop from file)) rows₀)
 
-abbrev decreases_loop : tie.decreases_loop
+abbrev decreases_loop : tie.decreases-loop-j
 decreases_loop rows₀ at file from count j₀ rows j = count - j
 
-loop-holds : tie.Need-loop-init invariant_loop decreases_loop
+loop-holds : tie.Need-loop-j-init invariant_loop decreases_loop
 loop-holds c = let a = c.before.before.args in let x : a.at + 0 ≡ a.at = omega arith in
     let y : a.from + 8 * 0 ≡ a.from = omega arith in let z : a.count - 0 ≡ a.count = omega arith in
     (omega arith, refl, rw (x, y, z))
 
-loop-again : tie.Need-loop-preserved invariant_loop decreases_loop
-loop-again c = let l = c.before.before.loop in let a = c.before.before.before.before.before.args in
+loop-again : tie.Need-loop-j-preserved invariant_loop decreases_loop
+loop-again c = let l = c.before.before.loop-j in let a = c.before.before.before.before.before.args in
     let n : a.count - l.j ≡ suc (a.count - (l.j + 1)) = omega arith in
     let x : a.at + (l.j + 1) ≡ a.at + l.j + 1 = omega arith in
     let y : a.from + 8 * (l.j + 1) ≡ a.from + 8 * l.j + 8 = omega arith in (
@@ -39,7 +39,7 @@ loop-again c = let l = c.before.before.loop in let a = c.before.before.before.be
     )
 
 returns : tie.Need-returns invariant_loop decreases_loop
-returns c = let l = c.before.loop in let a = c.before.before.before.before.args in
+returns c = let l = c.before.loop-j in let a = c.before.before.before.before.args in
     sym (read-end 8 (a.count - l.j) (a.from + 8 * l.j) (a.at + l.j) a.file.now l.rows (omega arith))
     ∙ l.invariant.2
 

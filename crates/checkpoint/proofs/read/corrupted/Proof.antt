@@ -4,7 +4,8 @@ use Rattle.checkpoint.proofs.read.corrupted.Statement.{statement}
 use Rattle.checkpoint.proofs.read.corrupted.Tie as tie
 
 returns : tie.Need-returns
-returns c = rw c.no_Header.ensures
+returns c = rw c.no_header-h.ensures
 
 pub corrupted_spec : {M : Type 1} → statement M
-corrupted_spec = tie.close (tie.spec (λ c κs. search rules) returns)
+corrupted_spec = tie.close (tie.spec (λ c κs. search rules)
+    returns)

@@ -13,21 +13,21 @@ use Rattle.checkpoint.proofs.Laws.Numbers.{read_all, read_next, read-end}
 use Rattle.checkpoint.proofs.read.counts_at.Statement.{statement}
 use Rattle.checkpoint.proofs.read.counts_at.Tie as tie
 
-abbrev invariant_loop : tie.invariant_loop
+abbrev invariant_loop : tie.invariant-loop-k
 invariant_loop file at counts₀ k₀ counts k =
     (k ≤ partitions_max) × (length counts ≡ partitions_max)
     × (over k (numbers_in 2 (partitions_max - k) (drop (at + 2 * k) file)) counts
     ≡ numbers_in 2 partitions_max (drop at file))
 
-abbrev decreases_loop : tie.decreases_loop
+abbrev decreases_loop : tie.decreases-loop-k
 decreases_loop file at counts₀ k₀ counts k = partitions_max - k
 
-loop-holds : tie.Need-loop-init invariant_loop decreases_loop
+loop-holds : tie.Need-loop-k-init invariant_loop decreases_loop
 loop-holds c = let a = c.before.args in let z : a.at + 2 * 0 ≡ a.at = omega arith in
     (omega arith, refl, rw z (read_all 2 partitions_max a.at a.file.now (replicate partitions_max 0) refl))
 
-loop-again : tie.Need-loop-preserved invariant_loop decreases_loop
-loop-again c = let l = c.before.before.loop in let a = c.before.before.before.before.args in
+loop-again : tie.Need-loop-k-preserved invariant_loop decreases_loop
+loop-again c = let l = c.before.before.loop-k in let a = c.before.before.before.before.args in
     let n : partitions_max - l.k ≡ suc (partitions_max - (l.k + 1)) = omega arith in
     let e : a.at + 2 * (l.k + 1) ≡ a.at + 2 * l.k + 2 = omega arith in (
       search rules,
@@ -38,7 +38,7 @@ loop-again c = let l = c.before.before.loop in let a = c.before.before.before.be
     )
 
 returns : tie.Need-returns invariant_loop decreases_loop
-returns c = let l = c.before.loop in let a = c.before.before.before.args in
+returns c = let l = c.before.loop-k in let a = c.before.before.before.args in
     sym (read-end 2 (partitions_max - l.k) (a.at + 2 * l.k) l.k a.file.now l.counts (omega arith))
     ∙ l.invariant.2
 

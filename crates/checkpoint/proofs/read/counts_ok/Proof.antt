@@ -20,33 +20,33 @@ use Rattle.checkpoint.proofs.read.counts_ok.Tie as tie
 abbrev at_most : ℕ → Bool
 at_most n = leb n rows_max
 
-abbrev invariant_loop : tie.invariant_loop
+abbrev invariant_loop : tie.invariant-loop-k
 invariant_loop counts k₀ k =
     (k ≤ partitions_max) × (length counts ≡ partitions_max)
     × (all_of at_most counts ≡ all_of at_most (drop k counts))
 
-abbrev decreases_loop : tie.decreases_loop
+abbrev decreases_loop : tie.decreases-loop-k
 decreases_loop counts k₀ k = partitions_max - k
 
-loop-holds : tie.Need-loop-init invariant_loop decreases_loop
-loop-holds c = (omega arith, good_length (e_int w64) 8 c.args.t1 _ c.well-formed.0, refl)
+loop-holds : tie.Need-loop-k-init invariant_loop decreases_loop
+loop-holds c = (omega arith, good_length (e_int w64) 8 c.args.counts _ c.well_formed.0, refl)
 
-returns : tie.Need-returns invariant_loop decreases_loop
-returns c = let l = c.before.before.loop in let a = c.before.before.before.args in
-    let f : leb (get_or a.t1 l.k 0) rows_max ≡ false = lt-leb (get_or a.t1 l.k 0) rows_max (omega arith) in
-    sym (l.invariant.2 ∙ all-next a.t1 partitions_max l.invariant.1 at_most 0 l.k false (omega arith) f)
+returns : tie.Need-returns-then-counts-k-gt-ROWS_MAX invariant_loop decreases_loop
+returns c = let l = c.before.before.loop-k in let a = c.before.before.before.args in
+    let f : leb (get_or a.counts l.k 0) rows_max ≡ false = lt-leb (get_or a.counts l.k 0) rows_max (omega arith) in
+    sym (l.invariant.2 ∙ all-next a.counts partitions_max l.invariant.1 at_most 0 l.k false (omega arith) f)
 
-loop-again : tie.Need-loop-preserved invariant_loop decreases_loop
-loop-again c = let l = c.before.before.loop in let a = c.before.before.before.args in
-    let t : leb (get_or a.t1 l.k 0) rows_max ≡ true = le-leb (get_or a.t1 l.k 0) rows_max (omega arith) in (
+loop-again : tie.Need-loop-k-preserved invariant_loop decreases_loop
+loop-again c = let l = c.before.before.loop-k in let a = c.before.before.before.args in
+    let t : leb (get_or a.counts l.k 0) rows_max ≡ true = le-leb (get_or a.counts l.k 0) rows_max (omega arith) in (
       omega arith,
       l.invariant.1,
-      l.invariant.2 ∙ all-next a.t1 partitions_max l.invariant.1 at_most 0 l.k true (omega arith) t,
+      l.invariant.2 ∙ all-next a.counts partitions_max l.invariant.1 at_most 0 l.k true (omega arith) t,
     )
 
-returns_2 : tie.Need-returns-2 invariant_loop decreases_loop
-returns_2 c = let l = c.before.loop in
-    sym (l.invariant.2 ∙ all_end c.before.before.args.t1 partitions_max l.invariant.1 at_most l.k (omega arith))
+returns_2 : tie.Need-returns invariant_loop decreases_loop
+returns_2 c = let l = c.before.loop-k in
+    sym (l.invariant.2 ∙ all_end c.before.before.args.counts partitions_max l.invariant.1 at_most l.k (omega arith))
 
 pub counts_ok_spec : {M : Type 1} → statement M
 counts_ok_spec =

@@ -6,7 +6,7 @@ use Rattle.checkpoint.proofs.read.header_at.Tie as tie
 
 returns : tie.Need-returns
 returns c = let a = c.before.before.before.args in
-    rw (c.before.word_at.ensures, c.counts-at.ensures, drop-drop 8 a.at a.file.now)
+    rw (c.before.word_at-epoch.ensures, c.counts_at-counts.ensures, drop-drop 8 a.at a.file.now)
 
 pub header_at_spec : {M : Type 1} → statement M
 header_at_spec =

@@ -12,20 +12,20 @@ use Rattle.checkpoint.proofs.Laws.Numbers.{weight-next, weight-end}
 use Rattle.checkpoint.proofs.read.sum.Statement.{statement}
 use Rattle.checkpoint.proofs.read.sum.Tie as tie
 
-abbrev invariant_loop : tie.invariant_loop
+abbrev invariant_loop : tie.invariant-loop-j
 invariant_loop file from count s₀ j₀ s j =
     (j ≤ count) × (s ≤ 4294967295 * j)
     × (s + weight (numbers_in 8 (count - j) (drop (from + 8 * j) file)) ≡ weight (numbers_in 8 count (drop from file)))
 
-abbrev decreases_loop : tie.decreases_loop
+abbrev decreases_loop : tie.decreases-loop-j
 decreases_loop file from count s₀ j₀ s j = count - j
 
-loop-holds : tie.Need-loop-init invariant_loop decreases_loop
+loop-holds : tie.Need-loop-j-init invariant_loop decreases_loop
 loop-holds c = let a = c.before.args in let y : a.from + 8 * 0 ≡ a.from = omega arith in
     let z : a.count - 0 ≡ a.count = omega arith in (omega arith, omega arith, rw (y, z) (omega arith))
 
-loop-again : tie.Need-loop-preserved invariant_loop decreases_loop
-loop-again c = let l = c.before.before.loop in let a = c.before.before.before.before.args in
+loop-again : tie.Need-loop-j-preserved invariant_loop decreases_loop
+loop-again c = let l = c.before.before.loop-j in let a = c.before.before.before.before.args in
     let n : a.count - l.j ≡ suc (a.count - (l.j + 1)) = omega arith in
     let y : a.from + 8 * (l.j + 1) ≡ a.from + 8 * l.j + 8 = omega arith in
     let m = rw n at l.invariant.2 in (
@@ -36,7 +36,7 @@ loop-again c = let l = c.before.before.loop in let a = c.before.before.before.be
     )
 
 returns : tie.Need-returns invariant_loop decreases_loop
-returns c = let l = c.before.loop in let a = c.before.before.before.args in
+returns c = let l = c.before.loop-j in let a = c.before.before.before.args in
     omega (arith, l.invariant.2, weight-end 8 (a.count - l.j) (drop (a.from + 8 * l.j) a.file.now) (omega arith))
 
 pub sum_spec : {M : Type 1} → statement M

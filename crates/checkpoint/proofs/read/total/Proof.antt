@@ -16,31 +16,31 @@ use Rattle.rules.specs.Checkpoint.{sum_of}
 use Rattle.checkpoint.proofs.read.total.Statement.{statement}
 use Rattle.checkpoint.proofs.read.total.Tie as tie
 
-abbrev invariant_loop : tie.invariant_loop
+abbrev invariant_loop : tie.invariant-loop-k
 invariant_loop counts sum₀ k₀ sum k =
     (k ≤ partitions_max) × (length counts ≡ partitions_max) × (sum + sum_of (drop k counts) ≡ sum_of counts)
     × (sum ≤ rows_max * k)
 
-abbrev decreases_loop : tie.decreases_loop
+abbrev decreases_loop : tie.decreases-loop-k
 decreases_loop counts sum₀ k₀ sum k = partitions_max - k
 
-loop-holds : tie.Need-loop-init invariant_loop decreases_loop
-loop-holds c = (omega arith, good_length (e_int w64) 8 c.args.t1 _ c.well-formed.0, omega arith, omega arith)
+loop-holds : tie.Need-loop-k-init invariant_loop decreases_loop
+loop-holds c = (omega arith, good_length (e_int w64) 8 c.args.counts _ c.well_formed.0, omega arith, omega arith)
 
 -- the count that is added
-small : (c : tie.In-loop invariant_loop decreases_loop) → get_or c.before.before.args.t1 c.before.loop.k 0 ≤ rows_max
-small c = let s = c.before.before in let l = c.before.loop in
-    leb-true _ _ (all-at (λ n. leb n rows_max) s.args.t1 0 s.requires l.k (omega arith))
+small : (c : tie.In-loop-k invariant_loop decreases_loop) → get_or c.before.before.args.counts c.before.loop-k.k 0 ≤ rows_max
+small c = let s = c.before.before in let l = c.before.loop-k in
+    leb-true _ _ (all-at (λ n. leb n rows_max) s.args.counts 0 s.requires l.k (omega arith))
 
-add-sum : tie.Need-overflow-add-sum invariant_loop decreases_loop
+add-sum : tie.Need-overflow_add-sum invariant_loop decreases_loop
 add-sum c = let m = small c in omega arith
 
-loop-again : tie.Need-loop-preserved invariant_loop decreases_loop
-loop-again c = let l = c.before.loop in let cs = c.before.before.args.t1 in let m = small c in
+loop-again : tie.Need-loop-k-preserved invariant_loop decreases_loop
+loop-again c = let l = c.before.loop-k in let cs = c.before.before.args.counts in let m = small c in
     let e = ap sum_of (from_next cs 0 l.k (omega arith)) in (omega arith, l.invariant.1, omega arith, omega arith)
 
 returns : tie.Need-returns invariant_loop decreases_loop
-returns c = let l = c.before.loop in let cs = c.before.before.args.t1 in
+returns c = let l = c.before.loop-k in let cs = c.before.before.args.counts in
     let e = ap sum_of (drop_of_length-le cs {i = l.k} (omega arith)) in (omega arith, omega arith)
 
 pub total_spec : {M : Type 1} → statement M

@@ -12,36 +12,36 @@ use Rattle.checkpoint.proofs.Laws.Numbers.{write-next, write-end}
 use Rattle.checkpoint.proofs.write.copy.Statement.{statement}
 use Rattle.checkpoint.proofs.write.copy.Tie as tie
 
-abbrev invariant_loop : tie.invariant_loop
+abbrev invariant_loop : tie.invariant-loop-j
 invariant_loop out₀ at rows from count j₀ out j =
     (j ≤ count) × (length out ≡ length out₀)
     × (over (at + 8 * j) (gather (bytes_of 8) (part (from + j) (count - j) rows)) out
     ≡ over at (gather (bytes_of 8) (part from count rows)) out₀)
 
-abbrev decreases_loop : tie.decreases_loop
+abbrev decreases_loop : tie.decreases-loop-j
 decreases_loop out₀ at rows from count j₀ out j = count - j
 
-loop-holds : tie.Need-loop-init invariant_loop decreases_loop
+loop-holds : tie.Need-loop-j-init invariant_loop decreases_loop
 loop-holds c = let a = c.before.before.args in let x : a.at + 8 * 0 ≡ a.at = omega arith in
     let y : a.from + 0 ≡ a.from = omega arith in let z : a.count - 0 ≡ a.count = omega arith in
     (omega arith, refl, rw (x, y, z))
 
-loop-again : tie.Need-loop-preserved invariant_loop decreases_loop
-loop-again c = let l = c.before.before.before.before.before.before.loop in
+loop-again : tie.Need-loop-j-preserved invariant_loop decreases_loop
+loop-again c = let l = c.before.before.before.before.before.before.loop-j in
     let a = c.before.before.before.before.before.before.before.before.before.args in
     let n : a.count - l.j ≡ suc (a.count - (l.j + 1)) = omega arith in
     let x : a.at + 8 * (l.j + 1) ≡ a.at + 8 * l.j + 8 = omega arith in
     let y : a.from + (l.j + 1) ≡ a.from + l.j + 1 = omega arith in (
       search rules,
       search rules,
-      rw (x, y, c.before.before.put-number.ensures)
+      rw (x, y, c.before.before.put_number.ensures)
           (write-next 8 (a.count - (l.j + 1)) (a.at + 8 * l.j) (a.from + l.j) a.rows.now l.out (omega arith)
           (omega arith)
           ∙ (rw n at l.invariant.2)),
     )
 
 returns : tie.Need-returns invariant_loop decreases_loop
-returns c = let l = c.before.loop in let a = c.before.before.before.before.args in
+returns c = let l = c.before.loop-j in let a = c.before.before.before.before.args in
     sym (write-end 8 (a.count - l.j) (a.at + 8 * l.j) (a.from + l.j) a.rows.now l.out (omega arith))
     ∙ l.invariant.2
 

@@ -8,4 +8,6 @@ use Rattle.checkpoint.proofs.write.head_of.Tie as tie
 pub head_of_spec : {M : Type 1} → statement M
 unfolding head_of
 head_of_spec = tie.close (tie.spec
-    (λ c. (search tests, omega arith)) (λ c. (search tests, omega arith)) (λ c. (search tests, omega arith)))
+    (λ c. (search tests, omega arith))
+    (λ c. (search tests, omega arith))
+    (λ c. (search tests, omega arith)))

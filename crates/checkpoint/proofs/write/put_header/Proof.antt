@@ -13,18 +13,18 @@ use Rattle.checkpoint.proofs.Laws.Numbers.{write-behind}
 use Rattle.checkpoint.proofs.write.put_header.Statement.{statement}
 use Rattle.checkpoint.proofs.write.put_header.Tie as tie
 
-returns : tie.Need-returns
+returns : tie.Need-returns-then-out-lt-HEADER_SIZE
 unfolding header_put
 returns c = rw (lt-leb header_size (length c.before.before.args.out.now) (omega arith))
 
-returns_2 : tie.Need-returns-2
+returns_2 : tie.Need-returns
 unfolding header_put
 returns_2 c = let s = c.before.before.before.before.before.before.before.before.before.before in
     let cs = s.args.counts in
-    let n : length cs ≡ partitions_max = good_length (e_int w64) 8 cs _ s.well-formed.1.1.0 in
+    let n : length cs ≡ partitions_max = good_length (e_int w64) 8 cs _ s.well_formed.1.1.0 in
     let p = c.before.before.before.before.before.before in
     rw (le-leb header_size (length s.args.out.now) (omega arith))
-    (rw p.put-number.ensures at c.before.before.put-counts.ensures
+    (rw p.put_number.ensures at c.before.before.put_counts.ensures
     ∙ write-behind 8 2 0 s.args.epoch cs s.args.out.now (omega arith))
 
 pub put_header_spec : {M : Type 1} → statement M

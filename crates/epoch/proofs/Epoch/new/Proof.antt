@@ -8,4 +8,6 @@ use Rattle.epoch.proofs.Epoch.new.Tie as tie
 
 pub new_spec : {M : Type 1} → statement M
 unfolding start_of last_epoch
-new_spec = tie.close (tie.spec (λ c. search tests) (λ c. search tests) (λ c. search tests))
+new_spec = tie.close (tie.spec (λ c. search tests)
+    (λ c. search tests)
+    (λ c. search tests))

@@ -10,19 +10,19 @@ call_of_spec =
     tie.close
     (tie.spec
     (λ c κs. search rules)
-    (λ c. rw (c.before.before.if1.true, c.before.if2.true) c.scan.ensures)
-    (λ c. rw (c.before.if1.true, ne_eqb c.before.before.args.count 2 c.if2.false))
+    (λ c. rw (c.before.before.if-letter-eq83.true, c.before.if-count-eq2.true) c.scan.ensures)
+    (λ c. rw (c.before.if-letter-eq83.true, ne_eqb c.before.before.args.count 2 c.if-count-eq2.false))
     (λ c κs. search rules)
     (λ c. let e = c.before.before in
-    rw (ne_eqb e.before.args.letter 83 e.if1.false, c.before.if3.true) c.with-one.ensures)
+    rw (ne_eqb e.before.args.letter 83 e.if-letter-eq83.false, c.before.if-count-eq1.true) c.with_one.ensures)
     (λ c κs. search rules)
     (λ c. let e = c.before.before.before in
-    rw (ne_eqb e.before.args.letter 83 e.if1.false, c.before.if4.true) c.with_two.ensures)
+    rw (ne_eqb e.before.args.letter 83 e.if-letter-eq83.false, c.before.if-count-eq2-2.true) c.with_two.ensures)
     (λ c. search rules)
     (λ c κs. search rules)
     (λ c. let e = c.before.before.before in let a = e.before.args in
     rw (
-      ne_eqb a.letter 83 e.if1.false,
-      ne_eqb a.count 1 c.before.before.if3.false,
-      ne_eqb a.count 2 c.before.if4.false,
-    ) c.with-more.ensures))
+      ne_eqb a.letter 83 e.if-letter-eq83.false,
+      ne_eqb a.count 1 c.before.before.if-count-eq1.false,
+      ne_eqb a.count 2 c.before.if-count-eq2-2.false,
+    ) c.with_more.ensures))

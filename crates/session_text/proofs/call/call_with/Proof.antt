@@ -9,13 +9,13 @@ use borrow.Author.Rules.{rules}
 use Rattle.session_text.proofs.call.call_with.Statement.{statement}
 use Rattle.session_text.proofs.call.call_with.Tie as tie
 
-returns : tie.Need-returns
-returns c = let s = c.before.before.before.before in let a = s.args in let one = c.before.before.if1.true in
-    c.call-of.ensures ∙ rw one (call-one a.letter a.who a.numbers.now (omega arith))
+returns : tie.Need-returns-then-count-eq1
+returns c = let s = c.before.before.before.before in let a = s.args in let one = c.before.before.if-count-eq1.true in
+    c.call_of.ensures ∙ rw one (call-one a.letter a.who a.numbers.now (omega arith))
 
-returns_2 : tie.Need-returns-2
+returns_2 : tie.Need-returns
 returns_2 c = let s = c.before.before.before.before.before in let a = s.args in
-    c.call-of2.ensures ∙ call-more a.letter a.who a.count a.numbers.now (omega arith) s.requires.1
+    c.call_of-2.ensures ∙ call-more a.letter a.who a.count a.numbers.now (omega arith) s.requires.1
 
 pub call_with_spec : {M : Type 1} → statement M
 call_with_spec =

@@ -8,5 +8,5 @@ pub from_of_spec : {M : Type 1} → statement M
 from_of_spec =
     tie.close
     (tie.spec
-    (λ c. rw c.if1.true)
-    (λ c. rw (ne_eqb c.before.args.letter 83 c.if1.false)))
+    (λ c. rw c.if-letter-eq83.true)
+    (λ c. rw (ne_eqb c.before.args.letter 83 c.if-letter-eq83.false)))

@@ -9,16 +9,16 @@ use borrow.Author.Rules.{rules}
 use Rattle.session_text.proofs.call.parse_letter.Statement.{statement}
 use Rattle.session_text.proofs.call.parse_letter.Tie as tie
 
-returns : tie.Need-returns
-returns c = let s = c.before.before in no_bytes s.args.line.now s.requires c.if1.true
+returns : tie.Need-returns-then-line-ne1
+returns c = let s = c.before.before in no_bytes s.args.line.now s.requires c.if-line-ne1.true
 
-returns_2 : tie.Need-returns-2
+returns_2 : tie.Need-returns-then-line-ne66
 returns_2 c = let e = c.before.before in let line = e.before.before.args.line.now in
-    rw (ne_eqb (get_or line 0 0) 66 c.if2.true) at (one_byte line e.if1.false)
+    rw (ne_eqb (get_or line 0 0) 66 c.if-line-ne66.true) at (one_byte line e.if-line-ne1.false)
 
-returns_3 : tie.Need-returns-3
+returns_3 : tie.Need-returns
 returns_3 c = let e = c.before.before.before in let line = e.before.before.args.line.now in
-    c.bare.ensures ∙ (rw (eq-eqb (get_or line 0 0) 66 c.before.if2.false) at (one_byte line e.if1.false))
+    c.bare.ensures ∙ (rw (eq-eqb (get_or line 0 0) 66 c.before.if-line-ne66.false) at (one_byte line e.if-line-ne1.false))
 
 pub parse_letter_spec : {M : Type 1} → statement M
 parse_letter_spec =

@@ -13,7 +13,7 @@ scan_spec =
     (tie.spec
     (λ c κs. search rules)
     (λ c κs. search rules)
-    (λ c. rw c.before.match.keys1 c.bare.ensures)
-    (λ c. rw c.before.match.keys2 c.bare2.ensures)
-    (λ c. let x = c.before.args.who in let r = c.match.rest in
+    (λ c. rw c.before.in-108.is c.bare.ensures)
+    (λ c. rw c.before.in-112.is c.bare-in-112.ensures)
+    (λ c. let x = c.before.args.who in let r = c.in_default.in_default-own.rest in
     rw (ne_eqb x 108 r.0.1, ne_eqb x 112 r.1)))

@@ -10,5 +10,5 @@ unfolding with_more
 with_more_spec =
     tie.close
     (tie.spec
-    (λ c. rw (ne_eqb c.before.args.letter 65 c.if1.true))
-    (λ c. rw c.if1.false))
+    (λ c. rw (ne_eqb c.before.args.letter 65 c.if-letter-ne65.true))
+    (λ c. rw c.if-letter-ne65.false))

@@ -17,13 +17,13 @@ with_one_spec =
     (λ c κs. search rules)
     (λ c κs. search rules)
     (λ c κs. search rules)
-    (λ c. rw c.before.match.keys1 c.bare.ensures)
-    (λ c. rw c.before.match.keys2 c.bare2.ensures)
-    (λ c. rw c.before.match.keys3 c.bare3.ensures)
-    (λ c. rw c.before.match.keys4 c.bare4.ensures)
-    (λ c. rw c.before.match.keys5 c.bare5.ensures)
-    (λ c. rw c.before.match.keys6 c.bare6.ensures)
-    (λ c. let x = c.before.args.letter in let r = c.match.rest in
+    (λ c. rw c.before.in-67.is c.bare.ensures)
+    (λ c. rw c.before.in-88.is c.bare-in-88.ensures)
+    (λ c. rw c.before.in-82.is c.bare-in-82.ensures)
+    (λ c. rw c.before.in-69.is c.bare-in-69.ensures)
+    (λ c. rw c.before.in-76.is c.bare-in-76.ensures)
+    (λ c. rw c.before.in-80.is c.bare-in-80.ensures)
+    (λ c. let x = c.before.args.letter in let r = c.in_default.in_default-own.rest in
     rw (
       ne_eqb x 67 r.0.0.0.0.0.1,
       ne_eqb x 88 r.0.0.0.0.1,

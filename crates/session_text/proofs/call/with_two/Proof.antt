@@ -13,7 +13,7 @@ with_two_spec =
     (tie.spec
     (λ c κs. search rules)
     (λ c κs. search rules)
-    (λ c. rw c.before.match.keys1 c.bare.ensures)
-    (λ c. rw c.before.match.keys2 c.bare2.ensures)
-    (λ c. let x = c.before.args.letter in let r = c.match.rest in
+    (λ c. rw c.before.in-65.is c.bare.ensures)
+    (λ c. rw c.before.in-68.is c.bare-in-68.ensures)
+    (λ c. let x = c.before.args.letter in let r = c.in_default.in_default-own.rest in
     rw (ne_eqb x 65 r.0.1, ne_eqb x 68 r.1)))

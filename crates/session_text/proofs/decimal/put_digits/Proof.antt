@@ -12,36 +12,36 @@ use borrow.Author.Rules.{rules}
 use Rattle.session_text.proofs.decimal.put_digits.Statement.{statement}
 use Rattle.session_text.proofs.decimal.put_digits.Tie as tie
 
-abbrev invariant_loop : tie.invariant_loop
+abbrev invariant_loop : tie.invariant-loop-rest
 invariant_loop n out₀ at count end₀ rest₀ out end rest = (rest < 2 ^ 64) × (length out ≡ length out₀) × (end ≤ length out)
     × (end ≡ at + length (decimal rest)) × (over at (decimal n) out₀ ≡ over at (decimal rest) out)
 
-abbrev decreases_loop : tie.decreases_loop
+abbrev decreases_loop : tie.decreases-loop-rest
 decreases_loop n out₀ at count end₀ rest₀ out end rest = rest
 
-sub-end : tie.Need-overflow-sub-end invariant_loop decreases_loop
-sub-end c = omega (arith, decimal-some c.before.loop.rest)
+sub-end : tie.Need-overflow_sub-end invariant_loop decreases_loop
+sub-end c = omega (arith, decimal-some c.before.loop-rest.rest)
 
-slice-write-out : tie.Need-slice-write-out invariant_loop decreases_loop
-slice-write-out c = omega (arith, decimal-some c.before.loop.rest)
+slice-write-out : tie.Need-bounds-out-end invariant_loop decreases_loop
+slice-write-out c = omega (arith, decimal-some c.before.loop-rest.rest)
 
-loop-again : tie.Need-loop-preserved invariant_loop decreases_loop
-loop-again c = let l = c.before.loop in let a = c.before.before.args in let n = l.rest in
-    let one = length_large n c.loop-test.true l.invariant.0 in
+loop-again : tie.Need-loop-rest-preserved invariant_loop decreases_loop
+loop-again c = let l = c.before.loop-rest in let a = c.before.before.args in let n = l.rest in
+    let one = length_large n c.loop-rest-test.true l.invariant.0 in
     let e : l.end - 1 ≡ a.at + length (decimal (n / 10)) = omega arith in (
       omega arith,
       search rules,
       simp length-set (omega arith),
       e,
-      rw e (l.invariant.4 ∙ put_next a.at n l.out c.loop-test.true l.invariant.0 (omega arith)),
+      rw e (l.invariant.4 ∙ put_next a.at n l.out c.loop-rest-test.true l.invariant.0 (omega arith)),
     )
 
-slice-write-out_2 : tie.Need-slice-write-out-2 invariant_loop decreases_loop
-slice-write-out_2 c = omega (arith, decimal-some c.before.loop.rest)
+slice-write-out_2 : tie.Need-bounds-out-at invariant_loop decreases_loop
+slice-write-out_2 c = omega (arith, decimal-some c.before.loop-rest.rest)
 
 returns : tie.Need-returns invariant_loop decreases_loop
-returns c = let l = c.before.loop in let a = c.before.before.args in
-    sym (l.invariant.4 ∙ put_last a.at l.rest l.out c.loop-test.false
+returns c = let l = c.before.loop-rest in let a = c.before.before.args in
+    sym (l.invariant.4 ∙ put_last a.at l.rest l.out c.loop-rest-test.false
     (omega (arith, decimal-some l.rest)))
 
 pub put_digits_spec : {M : Type 1} → statement M

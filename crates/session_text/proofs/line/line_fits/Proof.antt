@@ -14,21 +14,21 @@ use borrow.Author.Rules.{rules}
 use Rattle.session_text.proofs.line.line_fits.Statement.{statement}
 use Rattle.session_text.proofs.line.line_fits.Tie as tie
 
-add-head : tie.Need-overflow-add-head
-add-head c = omega (arith, c.digits.ensures, decimal-few c.before.before.args.number)
+add-head : tie.Need-overflow_add-head
+add-head c = omega (arith, c.digits-head.ensures, decimal-few c.before.before.args.number)
 
-returns : tie.Need-returns
+returns : tie.Need-returns-then-room-head
 returns c = let s = c.before.before.before in let a = s.args in
     sym (lt-leb (length (line_of 0 a.number a.values.now)) a.room
-    (omega (arith, length-line 0 a.number a.values.now, c.before.digits.ensures)))
+    (omega (arith, length-line 0 a.number a.values.now, c.before.digits-head.ensures)))
 
-returns_2 : tie.Need-returns-2
+returns_2 : tie.Need-returns
 returns_2 c = let s = c.before.before.before.before in let a = s.args in let vs = a.values.now in
-    let d = c.before.before.digits in let head = d.result + 3 in
+    let d = c.before.before.digits-head in let head = d.result + 3 in
     let e : length (line_of 0 a.number vs) ≡ head + length (gather spaced vs) =
     omega (arith, length-line 0 a.number vs, d.ensures) in
     sym (ap (λ (n : ℕ). leb n a.room) e ∙ (leb-rest head (length (gather spaced vs)) a.room (omega arith)
-    ∙ sym c.values-fit.ensures))
+    ∙ sym c.values_fit.ensures))
 
 pub line_fits_spec : {M : Type 1} → statement M
 line_fits_spec =

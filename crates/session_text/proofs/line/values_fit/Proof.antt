@@ -16,36 +16,36 @@ use borrow.Author.Tests.{le-leb, lt-leb}
 use Rattle.session_text.proofs.line.values_fit.Statement.{statement}
 use Rattle.session_text.proofs.line.values_fit.Tie as tie
 
-abbrev invariant_loop : tie.invariant_loop
+abbrev invariant_loop : tie.invariant-loop-i
 invariant_loop values room left₀ i₀ left i = (i ≤ length values)
     × (leb (length (gather spaced values)) room ≡ leb (length (gather spaced (drop i values))) left)
 
-abbrev decreases_loop : tie.decreases_loop
+abbrev decreases_loop : tie.decreases-loop-i
 decreases_loop values room left₀ i₀ left i = length values - i
 
-add-n : tie.Need-overflow-add-n invariant_loop decreases_loop
-add-n c = let a = c.before.before.before.before.before.args in let i = c.before.before.before.loop.i in
-    omega (arith, c.digits.ensures, decimal-few (get_or a.values.now i 0))
+add-n : tie.Need-overflow_add-n invariant_loop decreases_loop
+add-n c = let a = c.before.before.before.before.before.args in let i = c.before.before.before.loop-i.i in
+    omega (arith, c.digits-n.ensures, decimal-few (get_or a.values.now i 0))
 
-returns : tie.Need-returns invariant_loop decreases_loop
-returns c = let k = c.before.before.before in let l = k.before.loop in
+returns : tie.Need-returns-then-left-n invariant_loop decreases_loop
+returns c = let k = c.before.before.before in let l = k.before.loop-i in
     let vs = k.before.before.before.args.values.now in
     sym (l.invariant.1 ∙ lt-leb (length (gather spaced (drop l.i vs))) l.left
-    (omega (arith, values_length vs l.i k.loop-test.true, c.before.digits.ensures)))
+    (omega (arith, values_length vs l.i k.loop-i-test.true, c.before.digits-n.ensures)))
 
-loop-again : tie.Need-loop-preserved invariant_loop decreases_loop
-loop-again c = let k = c.before.before.before in let l = k.before.loop in
-    let vs = k.before.before.before.args.values.now in let n = c.before.digits.ensures in
-    let e : 1 + c.before.digits.result ≡ length (spaced (get_or vs l.i 0)) = omega arith in
+loop-again : tie.Need-loop-i-preserved invariant_loop decreases_loop
+loop-again c = let k = c.before.before.before in let l = k.before.loop-i in
+    let vs = k.before.before.before.args.values.now in let n = c.before.digits-n.ensures in
+    let e : 1 + c.before.digits-n.result ≡ length (spaced (get_or vs l.i 0)) = omega arith in
     let rest = length (gather spaced (drop (suc l.i) vs)) in (
       search rules,
-      rw (add-one, e) (l.invariant.1 ∙ (ap (λ (m : ℕ). leb m l.left) (values_length vs l.i k.loop-test.true)
+      rw (add-one, e) (l.invariant.1 ∙ (ap (λ (m : ℕ). leb m l.left) (values_length vs l.i k.loop-i-test.true)
           ∙ leb-rest (length (spaced (get_or vs l.i 0))) rest l.left (omega arith))),
     )
 
-returns_2 : tie.Need-returns-2 invariant_loop decreases_loop
-returns_2 c = let l = c.before.loop in let vs = c.before.before.before.args.values.now in
-    let none : drop l.i vs ≡ [] = drop_of_length-le vs {i = l.i} c.loop-test.false in
+returns_2 : tie.Need-returns invariant_loop decreases_loop
+returns_2 c = let l = c.before.loop-i in let vs = c.before.before.before.args.values.now in
+    let none : drop l.i vs ≡ [] = drop_of_length-le vs {i = l.i} c.loop-i-test.false in
     sym ((rw none at l.invariant.1) ∙ le-leb 0 l.left (omega arith))
 
 pub values_fit_spec : {M : Type 1} → statement M

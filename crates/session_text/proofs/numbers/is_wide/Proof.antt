@@ -15,12 +15,13 @@ by_value : (a b v d : ℕ) → (a < b → 2 ^ 64 ≤ 10 * v + d) → (2 ^ 64 ≤
 by_value a b v d f g = same_test (ltb a b) (leb (2 ^ 64) (10 * v + d))
     (λ t. le-leb (2 ^ 64) (10 * v + d) (f (ltb-true a b t))) (λ t. lt-ltb a b (g (leb-true (2 ^ 64) (10 * v + d) t)))
 
-returns : tie.Need-returns
+returns : tie.Need-returns-then-value-eq-VALUE_MAX
 returns c = let a = c.before.args in by_value 5 a.digit a.value a.digit (λ h. omega arith) (λ h. omega arith)
 
-returns_2 : tie.Need-returns-2
+returns_2 : tie.Need-returns
 returns_2 c = let a = c.before.args in
     by_value 1844674407370955161 a.value a.value a.digit (λ h. omega arith) (λ h. omega arith)
 
 pub is_wide_spec : {M : Type 1} → statement M
-is_wide_spec = tie.close (tie.spec returns returns_2)
+is_wide_spec = tie.close (tie.spec returns
+    returns_2)

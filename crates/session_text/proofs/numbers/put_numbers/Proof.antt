@@ -20,16 +20,16 @@ use borrow.Author.Rules.{rules}
 use Rattle.session_text.proofs.numbers.put_numbers.Statement.{statement}
 use Rattle.session_text.proofs.numbers.put_numbers.Tie as tie
 
-abbrev invariant_loop : tie.invariant_loop
+abbrev invariant_loop : tie.invariant-loop-i
 invariant_loop line from numbers₀ value₀ k₀ i₀ numbers value k i = let left = drop i line in
     (i ≤ length line) × (length numbers ≡ length numbers₀) × (k + suc (later_in left) ≤ length numbers)
     × (ok_from true value left ≡ true)
     × (over 0 (numbers_of (drop from line)) numbers₀ ≡ over k (values_from value left) numbers)
 
-abbrev decreases_loop : tie.decreases_loop
+abbrev decreases_loop : tie.decreases-loop-i
 decreases_loop line from numbers₀ value₀ k₀ i₀ numbers value k i = length line - i
 
-loop-holds : tie.Need-loop-init invariant_loop decreases_loop
+loop-holds : tie.Need-loop-i-init invariant_loop decreases_loop
 loop-holds c = let a = c.args in let bs = drop a.from a.line.now in (
   search rules,
   refl,
@@ -39,75 +39,75 @@ loop-holds c = let a = c.args in let bs = drop a.from a.line.now in (
 )
 
 -- in a turn: the byte at i, and what is left after it
-abbrev L : tie.After-shared-slice-known invariant_loop decreases_loop → tie.At-loop invariant_loop decreases_loop
+abbrev L : tie.After-shared_slice_known-1 invariant_loop decreases_loop → tie.At-loop-i invariant_loop decreases_loop
 L k = k.before.before
 
-abbrev Line : tie.After-shared-slice-known invariant_loop decreases_loop → List ℕ
+abbrev Line : tie.After-shared_slice_known-1 invariant_loop decreases_loop → List ℕ
 Line k = (L k).before.args.line.now
 
-abbrev Byte : tie.After-shared-slice-known invariant_loop decreases_loop → ℕ
-Byte k = get_or (Line k) (L k).loop.i 0
+abbrev Byte : tie.After-shared_slice_known-1 invariant_loop decreases_loop → ℕ
+Byte k = get_or (Line k) (L k).loop-i.i 0
 
-abbrev Rest : tie.After-shared-slice-known invariant_loop decreases_loop → List ℕ
-Rest k = drop (suc (L k).loop.i) (Line k)
+abbrev Rest : tie.After-shared_slice_known-1 invariant_loop decreases_loop → List ℕ
+Rest k = drop (suc (L k).loop-i.i) (Line k)
 
-here : (k : tie.After-shared-slice-known invariant_loop decreases_loop) → drop (L k).loop.i (Line k) ≡ Byte k ∷ Rest k
-here k = drop-cons (Line k) (L k).loop.i 0 k.before.loop-test.true
+here : (k : tie.After-shared_slice_known-1 invariant_loop decreases_loop) → drop (L k).loop-i.i (Line k) ≡ Byte k ∷ Rest k
+here k = drop-cons (Line k) (L k).loop-i.i 0 k.before.loop-i-test.true
 
-ok-here : (k : tie.After-shared-slice-known invariant_loop decreases_loop) → ok_from true (L k).loop.value (Byte k ∷ Rest k) ≡ true
-ok-here k = sym (ap (ok_from true (L k).loop.value) (here k)) ∙ (L k).loop.invariant.3
+ok-here : (k : tie.After-shared_slice_known-1 invariant_loop decreases_loop) → ok_from true (L k).loop-i.value (Byte k ∷ Rest k) ≡ true
+ok-here k = sym (ap (ok_from true (L k).loop-i.value) (here k)) ∙ (L k).loop-i.invariant.3
 
-mul-numbers : tie.Need-overflow-mul-numbers invariant_loop decreases_loop
-mul-numbers c = omega (arith, c.before.before.before.before.well-formed.1.1.0.1)
+mul-numbers : tie.Need-offset_bounds-numbers-k invariant_loop decreases_loop
+mul-numbers c = omega (arith, c.before.before.before.before.well_formed.1.1.0.1)
 
-loop-again : tie.Need-loop-preserved invariant_loop decreases_loop
-loop-again c = let k = c.before in let l = (L k).loop in
-    let now' : drop l.i (Line k) ≡ 32 ∷ Rest k = rw c.if1.true at (here k) in
-    let fits = ok-fits l.value (drop l.i (Line k)) l.inv.3 in (
+loop-again : tie.Need-loop-i-preserved-then-byte-eq32 invariant_loop decreases_loop
+loop-again c = let k = c.before in let l = (L k).loop-i in
+    let now' : drop l.i (Line k) ≡ 32 ∷ Rest k = rw c.if-byte-eq32.true at (here k) in
+    let fits = ok-fits l.value (drop l.i (Line k)) l.invariant.3 in (
       search rules,
-      simp length-set l.inv.1,
+      simp length-set l.invariant.1,
       rw (add-one l.i) (simp length-set (omega (arith, ap later_in now', later-blank (Rest k)))),
-      rw add-one (ok-after-blank l.value (Rest k) fits (sym (ap (ok_from true l.value) now') ∙ l.inv.3)),
-      rw (add-one l.i) (l.inv.4 ∙ (ap (λ (bs : List ℕ). over l.k (values_from l.value bs) l.numbers) now'
+      rw add-one (ok-after-blank l.value (Rest k) fits (sym (ap (ok_from true l.value) now') ∙ l.invariant.3)),
+      rw (add-one l.i) (l.invariant.4 ∙ (ap (λ (bs : List ℕ). over l.k (values_from l.value bs) l.numbers) now'
           ∙ put-blank l.k l.value (Rest k) l.numbers (omega (arith, ap later_in now')))),
     )
 
-digit : (c : tie.Else1 invariant_loop decreases_loop) → is_digit (Byte c.before) ≡ true
-digit c = let k = c.before in ok-is-digit (L k).loop.value (Byte k) (Rest k) c.if1.false (ok-here k)
+digit : (c : tie.Else-byte-eq32 invariant_loop decreases_loop) → is_digit (Byte c.before) ≡ true
+digit c = let k = c.before in ok-is-digit (L k).loop-i.value (Byte k) (Rest k) c.if-byte-eq32.false (ok-here k)
 
-ok-next : (c : tie.Else1 invariant_loop decreases_loop) → let k = c.before in
-    ok_from true (grown_by (L k).loop.value (Byte k)) (Rest k) ≡ true
+ok-next : (c : tie.Else-byte-eq32 invariant_loop decreases_loop) → let k = c.before in
+    ok_from true (grown_by (L k).loop-i.value (Byte k)) (Rest k) ≡ true
 ok-next c = let k = c.before in
-    sym (ok-digit true (L k).loop.value (Byte k) (Rest k) (digit c)) ∙ ok-here k
+    sym (ok-digit true (L k).loop-i.value (Byte k) (Rest k) (digit c)) ∙ ok-here k
 
-value-fits : (c : tie.Else1 invariant_loop decreases_loop) → let k = c.before in grown_by (L k).loop.value (Byte k) < 2 ^ 64
-value-fits c = let k = c.before in ok-fits (grown_by (L k).loop.value (Byte k)) (Rest k) (ok-next c)
+value-fits : (c : tie.Else-byte-eq32 invariant_loop decreases_loop) → let k = c.before in grown_by (L k).loop-i.value (Byte k) < 2 ^ 64
+value-fits c = let k = c.before in ok-fits (grown_by (L k).loop-i.value (Byte k)) (Rest k) (ok-next c)
 
-mul_value : tie.Need-overflow-mul-value invariant_loop decreases_loop
+mul_value : tie.Need-overflow_mul-value invariant_loop decreases_loop
 mul_value c = omega (arith, value-fits c)
 
-sub_value : tie.Need-overflow-sub-value invariant_loop decreases_loop
+sub_value : tie.Need-overflow_sub-value invariant_loop decreases_loop
 sub_value c = omega (arith, digit-range (Byte c.before) (digit c))
 
-cast_value : tie.Need-overflow-cast-value invariant_loop decreases_loop
+cast_value : tie.Need-overflow_cast-value invariant_loop decreases_loop
 cast_value c = omega (arith, digit-range (Byte c.before) (digit c))
 
-add_value : tie.Need-overflow-add-value invariant_loop decreases_loop
+add_value : tie.Need-overflow_add-value invariant_loop decreases_loop
 add_value c = omega (arith, value-fits c)
 
-loop-again_2 : tie.Need-loop-preserved-2 invariant_loop decreases_loop
-loop-again_2 c = let k = c.before in let l = (L k).loop in (
+loop-again_2 : tie.Need-loop-i-preserved invariant_loop decreases_loop
+loop-again_2 c = let k = c.before in let l = (L k).loop-i in (
   search rules,
-  l.inv.1,
-  rw add-one (omega (arith, ap later_in (here k), later-other (Byte k) (Rest k) c.if1.false)),
+  l.invariant.1,
+  rw add-one (omega (arith, ap later_in (here k), later-other (Byte k) (Rest k) c.if-byte-eq32.false)),
   rw add-one (ok-next c),
-  rw add-one (l.inv.4 ∙ ap (λ (ns : List ℕ). over l.k ns l.numbers)
-      (ap (values_from l.value) (here k) ∙ values_other l.value (Byte k) (Rest k) c.if1.false)),
+  rw add-one (l.invariant.4 ∙ ap (λ (ns : List ℕ). over l.k ns l.numbers)
+      (ap (values_from l.value) (here k) ∙ values_other l.value (Byte k) (Rest k) c.if-byte-eq32.false)),
 )
 
 returns : tie.Need-returns invariant_loop decreases_loop
-returns c = let l = c.before.loop in let line = c.before.before.args.line.now in
-    let none : drop l.i line ≡ [] = drop_of_length-le line {i = l.i} c.loop-test.false in
+returns c = let l = c.before.loop-i in let line = c.before.before.args.line.now in
+    let none : drop l.i line ≡ [] = drop_of_length-le line {i = l.i} c.loop-i-test.false in
     sym (l.invariant.4 ∙ (ap (λ (bs : List ℕ). over l.k (values_from l.value bs) l.numbers) none
     ∙ put-end l.k l.value l.numbers (omega arith)))
 

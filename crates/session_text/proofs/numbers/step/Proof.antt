@@ -6,11 +6,11 @@ use borrow.Author.Rules.{rules}
 use Rattle.session_text.proofs.numbers.step.Statement.{statement}
 use Rattle.session_text.proofs.numbers.step.Tie as tie
 
-returns : tie.Need-returns
-returns c = rw c.before.if1.true c.end-number.ensures
+returns : tie.Need-returns-then-byte-eq32
+returns c = rw c.before.if-byte-eq32.true c.end_number.ensures
 
-returns_2 : tie.Need-returns-2
-returns_2 c = c.add-digit.ensures
+returns_2 : tie.Need-returns
+returns_2 c = c.add_digit.ensures
 
 pub step_spec : {M : Type 1} → statement M
 step_spec =
