@@ -1,4 +1,3 @@
 pub mod Loaded
 pub mod Saved
 pub mod Turned
-pub mod Types
