@@ -20,7 +20,7 @@ use Rattle.area.specs.declared.Area.{Area}
 use Rattle.area.specs.contracts.Area as area-type
 
 pub area-length : (x : Area) (vs : List Val) → Is (row area-type.the_type) x vs → length x.at ≡ entries_max
-area-length x vs g = sym (length-map x.at (entry-type.the_type).to) ∙ g.1.1.0.1.0.1
+area-length x vs g = g.1.1.0.1.0.1
 
 -- the entries in use are the first n
 pub entries-used : (a : Area) (n : ℕ) → length a.at ≡ entries_max → n ≡ min a.count entries_max

@@ -11,22 +11,22 @@ last_index_spec =
     tie.close
     (tie.spec
     (λ c κs. search rules)
-    (λ c. rw (← c.before.before.partition-at.ensures, lt-ltb _ _ c.if1.true))
+    (λ c. rw (← c.before.before.partition_at-q.ensures, lt-ltb _ _ c.if-q-lt1.true))
     (λ c. let u = c.before.before in
-    rw (← u.before.before.partition-at.ensures, le-ltb _ _ u.if1.false, lt-ltb _ _ c.if2.true))
+    rw (← u.before.before.partition_at-q.ensures, le-ltb _ _ u.if-q-lt1.false, lt-ltb _ _ c.if-q-gt-ENTRIES_MAX.true))
     (λ c. let v = c.before.before in let u = v.before.before in
     rw (
-      ← u.before.before.partition-at.ensures,
-      le-ltb _ _ u.if1.false,
-      le-ltb _ _ v.if2.false,
-      le-leb _ _ c.if3.true,
+      ← u.before.before.partition_at-q.ensures,
+      le-ltb _ _ u.if-q-lt1.false,
+      le-ltb _ _ v.if-q-gt-ENTRIES_MAX.false,
+      le-leb _ _ c.if-q-ge-AREAS_MAX.true,
     ))
     (λ c. search rules)
     (λ c. search rules)
     (λ c. let w = c.before.before in let v = w.before.before in let u = v.before.before in
     rw (
-      ← u.before.before.partition-at.ensures,
-      le-ltb _ _ u.if1.false,
-      le-ltb _ _ v.if2.false,
-      lt-leb _ _ w.if3.false,
+      ← u.before.before.partition_at-q.ensures,
+      le-ltb _ _ u.if-q-lt1.false,
+      le-ltb _ _ v.if-q-gt-ENTRIES_MAX.false,
+      lt-leb _ _ w.if-q-ge-AREAS_MAX.false,
     )))

@@ -8,9 +8,12 @@ use Rattle.partition.proofs.Laws.Places.{partitions_8}
 use Rattle.area.proofs.partition_at.Statement.{statement}
 use Rattle.area.proofs.partition_at.Tie as tie
 
-returns_2 : tie.Need-returns-2
-returns_2 c = let s = c.before in let n = partitions_8 s.args.t1 _ s.well-formed.0 in
-    sym (get_or-eq_default s.args.t1.at no_partition (omega arith))
+returns_2 : tie.Need-returns
+returns_2 c = let s = c.before in let n = partitions_8 s.args.ps _ s.well_formed.0 in
+    sym (get_or-eq_default s.args.ps.at no_partition (omega arith))
 
 pub partition_at_spec : {M : Type 1} → statement M
-partition_at_spec = tie.close (tie.spec (λ c. search rules) (λ c. search rules) (λ c. search rules) returns_2)
+partition_at_spec = tie.close (tie.spec (λ c. search rules)
+    (λ c. search rules)
+    (λ c. search rules)
+    returns_2)

@@ -5,11 +5,11 @@ use borrow.Author.Tests.{lt-ltb, le-ltb}
 use Rattle.area.proofs.row_base.Statement.{statement}
 use Rattle.area.proofs.row_base.Tie as tie
 
-returns : tie.Need-returns
-returns c = rw (lt-ltb _ _ c.if1.true)
+returns : tie.Need-returns-then-area-lt-AREAS_MAX
+returns c = rw (lt-ltb _ _ c.if-area-lt-AREAS_MAX.true)
 
-returns_2 : tie.Need-returns-2
-returns_2 c = rw (le-ltb _ _ c.if1.false)
+returns_2 : tie.Need-returns
+returns_2 c = rw (le-ltb _ _ c.if-area-lt-AREAS_MAX.false)
 
 pub row_base_spec : {M : Type 1} → statement M
 row_base_spec =

@@ -13,4 +13,4 @@ use Rattle.rules.specs.contracts.Partitions as partitions-type
 
 pub partitions_8 : (x : Partitions) (vs : List Val) → Is (row partitions-type.the_type) x vs
     → length x.at ≡ partitions_max
-partitions_8 x vs g = sym (length-map x.at (partition-type.the_type).to) ∙ g.1.1.0.1.0.1
+partitions_8 x vs g = g.1.1.0.1.0.1

@@ -7,4 +7,7 @@ use Rattle.txn_sound.proofs.reader_ok.Tie as tie
 
 pub reader_ok_spec : {M : Type 1} → statement M
 unfolding reader_ok
-reader_ok_spec = tie.close (tie.spec (λ c. search tests) (λ c. search tests) (λ c. search tests) (λ c. search tests))
+reader_ok_spec = tie.close (tie.spec (λ c. search tests)
+    (λ c. search tests)
+    (λ c. search tests)
+    (λ c. search tests))

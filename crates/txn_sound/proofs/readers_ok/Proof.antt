@@ -24,59 +24,59 @@ use Rattle.txn_sound.proofs.Laws.Joined.{joined-next, joined_ro}
 use Rattle.txn_sound.proofs.readers_ok.Statement.{statement}
 use Rattle.txn_sound.proofs.readers_ok.Tie as tie
 
-abbrev invariant_loop : tie.invariant_loop
+abbrev invariant_loop : tie.invariant-loop-i
 invariant_loop c ps n lo₀ i₀ lo i = Scan ps.at ps.count readers_max n i × (n ≡ ps.count)
     × (readers_tested c ps ≡ readers_ranked lo ps.next c (drop i (take ps.count ps.at))
     && all_of unused_ro (drop ps.count ps.at))
 
-abbrev decreases_loop : tie.decreases_loop
+abbrev decreases_loop : tie.decreases-loop-i
 decreases_loop c ps n lo₀ i₀ lo i = n - i
 
-abbrev invariant_loop2 : tie.invariant_loop2
+abbrev invariant_loop2 : tie.invariant-loop-i-2
 invariant_loop2 ps n lo i₀ left₀ i left =
     all_of unused_ro (drop n ps.at) ≡ eqb left 0 && all_of unused_ro (drop i ps.at)
 
-abbrev decreases_loop2 : tie.decreases_loop2
+abbrev decreases_loop2 : tie.decreases-loop-i-2
 decreases_loop2 ps n lo i₀ left₀ i left = readers_max - i
 
-loop-holds : tie.Need-loop-init invariant_loop decreases_loop invariant_loop2 decreases_loop2
+loop-holds : tie.Need-loop-i-init invariant_loop decreases_loop invariant_loop2 decreases_loop2
 unfolding readers_tested last_ticket
 loop-holds c = let s = c.before.before.before in
-    (scan-start (readers_32 s.args.t1 _ s.well-formed.0) (omega arith), refl, search tests)
+    (scan-start (readers_32 s.args.ps _ s.well_formed.0) (omega arith), refl, search tests)
 
-returns_4 : tie.Need-returns-4 invariant_loop decreases_loop invariant_loop2 decreases_loop2
+returns_4 : tie.Need-returns-then-not-reader_ok invariant_loop decreases_loop invariant_loop2 decreases_loop2
 unfolding reader_ok
-returns_4 c = let l = c.before.before.before.before.loop.invariant in
-    sym (l.2 ∙ rw (scan-next l.0 no_ro (omega arith), said-no c.before.reader-ok.ensures c.if4.true))
+returns_4 c = let l = c.before.before.before.before.loop-i.invariant in
+    sym (l.2 ∙ rw (scan-next l.0 no_ro (omega arith), said-no c.before.reader_ok.ensures c.if-not-reader_ok.true-raw))
 
-loop-again : tie.Need-loop-preserved invariant_loop decreases_loop invariant_loop2 decreases_loop2
+loop-again : tie.Need-loop-i-preserved invariant_loop decreases_loop invariant_loop2 decreases_loop2
 unfolding reader_ok
-loop-again c = let l = c.before.before.before.before.loop.invariant in (
+loop-again c = let l = c.before.before.before.before.loop-i.invariant in (
   scan-on l.0 (omega arith),
   l.1,
   l.2
-      ∙ rw (scan-next l.0 no_ro (omega arith), said-yes c.before.reader-ok.ensures c.if4.false),
+      ∙ rw (scan-next l.0 no_ro (omega arith), said-yes c.before.reader_ok.ensures c.if-not-reader_ok.false-raw),
 )
 
-loop2-holds : tie.Need-loop2-init invariant_loop decreases_loop invariant_loop2 decreases_loop2
-loop2-holds c = let a = c.before.loop in let h = a.invariant.0.high in let n = a.invariant.1 in
-    let e : a.i ≡ c.before.before.before.before.before.args.t1.count = omega arith in rw e
+loop2-holds : tie.Need-loop-i-2-init invariant_loop decreases_loop invariant_loop2 decreases_loop2
+loop2-holds c = let a = c.before.loop-i in let h = a.invariant.0.high in let n = a.invariant.1 in
+    let e : a.i ≡ c.before.before.before.before.before.args.ps.count = omega arith in rw e
 
-loop2-again : tie.Need-loop2-preserved invariant_loop decreases_loop invariant_loop2 decreases_loop2
+loop2-again : tie.Need-loop-i-2-preserved invariant_loop decreases_loop invariant_loop2 decreases_loop2
 loop2-again c =
     let b = c.before.before.before.before in let l = b.before.before in
-    let at = l.before.before.before.before.args.t1.at in let k = b.loop2 in
-    k.invariant ∙ joined-next unused_ro at readers_max l.loop.invariant.0.len no_ro k.i (eqb k.left 0) _ (omega arith)
+    let at = l.before.before.before.before.args.ps.at in let k = b.loop-i-2 in
+    k.invariant ∙ joined-next unused_ro at readers_max l.loop-i.invariant.0.len no_ro k.i (eqb k.left 0) _ (omega arith)
     (joined_ro k.left (get_or at k.i no_ro))
 
-returns_5 : tie.Need-returns-5 invariant_loop decreases_loop invariant_loop2 decreases_loop2
-returns_5 c = let b = c.before in let l = b.before.before in let i = l.loop.invariant in
+returns_5 : tie.Need-returns invariant_loop decreases_loop invariant_loop2 decreases_loop2
+returns_5 c = let b = c.before in let l = b.before.before in let i = l.loop-i.invariant in
     sym (i.2 ∙ rw (
       scan-end i.0 (omega arith),
-      b.loop2.invariant,
-      all_end l.before.before.before.before.args.t1.at readers_max i.0.len unused_ro b.loop2.i
+      b.loop-i-2.invariant,
+      all_end l.before.before.before.before.args.ps.at readers_max i.0.len unused_ro b.loop-i-2.i
           (omega arith),
-    ) (and-true (eqb b.loop2.left 0)))
+    ) (and-true (eqb b.loop-i-2.left 0)))
 
 pub readers_ok_spec : {M : Type 1} → statement M
 unfolding readers_tested last_ticket

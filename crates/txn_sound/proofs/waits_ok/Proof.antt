@@ -11,5 +11,5 @@ waits_ok_spec =
     (tie.spec
     (λ c. search tests)
     (λ c. search tests)
-    (λ c. search (tests, not-true c.before.before.before.args.seen c.if3.true))
-    (λ c. search (tests, not-false c.before.before.before.args.seen c.if3.false)))
+    (λ c. search (tests, not-true c.before.before.before.args.seen c.if-not-seen.true-raw))
+    (λ c. search (tests, not-false c.before.before.before.args.seen c.if-not-seen.false-raw)))

@@ -24,90 +24,90 @@ use Rattle.txn_sound.proofs.Laws.Sound.{Turn, turn_stop, turn_on, turn_end, row-
 use Rattle.txn_sound.proofs.writers_ok.Statement.{statement}
 use Rattle.txn_sound.proofs.writers_ok.Tie as tie
 
-abbrev invariant_loop : tie.invariant_loop
+abbrev invariant_loop : tie.invariant-loop-i
 invariant_loop c deps ts n lo₀ seen₀ i₀ lo seen i = Turn c ts deps lo seen i × (n ≡ ts.count)
 
-abbrev decreases_loop : tie.decreases_loop
+abbrev decreases_loop : tie.decreases-loop-i
 decreases_loop c deps ts n lo₀ seen₀ i₀ lo seen i = n - i
 
-abbrev invariant_loop2 : tie.invariant_loop2
+abbrev invariant_loop2 : tie.invariant-loop-i-2
 invariant_loop2 deps ts n lo seen i₀ left₀ i left =
     all_of unused_rw (drop n ts.at) ≡ eqb left 0 && all_of unused_rw (drop i ts.at)
 
-abbrev decreases_loop2 : tie.decreases_loop2
+abbrev decreases_loop2 : tie.decreases-loop-i-2
 decreases_loop2 deps ts n lo seen i₀ left₀ i left = writers_max - i
 
-loop-holds : tie.Need-loop-init invariant_loop decreases_loop invariant_loop2 decreases_loop2
+loop-holds : tie.Need-loop-i-init invariant_loop decreases_loop invariant_loop2 decreases_loop2
 loop-holds c = let s = c.before.before.before in (
   record {
     high = omega arith;
-    room = c.if2.false;
-    len = writers_32 s.args.t1 _ s.well-formed.0;
-    words = c.before.if1.false;
+    room = c.if-n-gt-WRITERS_MAX.false;
+    len = writers_32 s.args.ts _ s.well_formed.0;
+    words = c.before.if-deps-ne-DEPS_ALL.false;
     left = refl;
   },
   refl,
 )
 
-returns_3 : tie.Need-returns-3 invariant_loop decreases_loop invariant_loop2 decreases_loop2
+returns_3 : tie.Need-returns-then-t-lo invariant_loop decreases_loop invariant_loop2 decreases_loop2
 returns_3 c = let l = c.before.before.before in
-    turn_stop l.before.loop.invariant.0 l.loop-test.true (rw (le-ltb _ _ c.if3.true))
+    turn_stop l.before.loop-i.invariant.0 l.loop-i-test.true (rw (le-ltb _ _ c.if-t-lo.true))
 
-returns_4 : tie.Need-returns-4 invariant_loop decreases_loop invariant_loop2 decreases_loop2
+returns_4 : tie.Need-returns-then-c-t invariant_loop decreases_loop invariant_loop2 decreases_loop2
 returns_4 c = let b = c.before.before.before in let l = b.before.before.before in
-    turn_stop l.before.loop.invariant.0 l.loop-test.true
-    (rw (lt-ltb _ _ b.if3.false, le-ltb _ _ c.if4.true))
+    turn_stop l.before.loop-i.invariant.0 l.loop-i-test.true
+    (rw (lt-ltb _ _ b.if-t-lo.false, le-ltb _ _ c.if-c-t.true))
 
-returns_5 : tie.Need-returns-5 invariant_loop decreases_loop invariant_loop2 decreases_loop2
+returns_5 : tie.Need-returns-then-not-waits_ok invariant_loop decreases_loop invariant_loop2 decreases_loop2
 returns_5 c = let a = c.before.before in let b = a.before.before.before in let l = b.before.before.before in
-    turn_stop l.before.loop.invariant.0 l.loop-test.true
+    turn_stop l.before.loop-i.invariant.0 l.loop-i-test.true
     (rw (
-      lt-ltb _ _ b.if3.false,
-      lt-ltb _ _ a.if4.false,
-      said-no c.before.waits-ok.ensures c.if5.true,
+      lt-ltb _ _ b.if-t-lo.false,
+      lt-ltb _ _ a.if-c-t.false,
+      said-no c.before.waits_ok.ensures c.if-not-waits_ok.true-raw,
     ))
 
-returns_6 : tie.Need-returns-6 invariant_loop decreases_loop invariant_loop2 decreases_loop2
+returns_6 : tie.Need-returns-then-not-row_ok invariant_loop decreases_loop invariant_loop2 decreases_loop2
 returns_6 c =
     let w = c.before.before.before in let a = w.before.before in let b = a.before.before.before in
     let l = b.before.before.before in
-    turn_stop l.before.loop.invariant.0 l.loop-test.true
-    (rw (lt-ltb _ _ b.if3.false, lt-ltb _ _ a.if4.false, said-yes w.before.waits-ok.ensures w.if5.false)
-    (said-no (row-lent _ _ _ l.before.loop.i _ c.before.row_ok.ensures) c.if6.true))
+    turn_stop l.before.loop-i.invariant.0 l.loop-i-test.true
+    (rw (lt-ltb _ _ b.if-t-lo.false, lt-ltb _ _ a.if-c-t.false, said-yes w.before.waits_ok.ensures w.if-not-waits_ok.false-raw)
+    (said-no (row-lent _ _ _ l.before.loop-i.i _ c.before.row_ok.ensures) c.if-not-row_ok.true-raw))
 
-loop-again : tie.Need-loop-preserved invariant_loop decreases_loop invariant_loop2 decreases_loop2
+loop-again : tie.Need-loop-i-preserved invariant_loop decreases_loop invariant_loop2 decreases_loop2
 loop-again c =
     let r = c.before in let w = r.before.before.before in let a = w.before.before in
     let b = a.before.before.before in let l = b.before.before.before in (
-      rw c.seen-open.ensures (turn_on l.before.loop.invariant.0 l.loop-test.true
-          (rw (lt-ltb _ _ b.if3.false, lt-ltb _ _ a.if4.false, said-yes w.before.waits-ok.ensures w.if5.false)
-          (said-yes (row-lent _ _ _ l.before.loop.i _ r.before.row_ok.ensures) r.if6.false))),
-      l.before.loop.invariant.1,
+      rw c.seen_open-seen.ensures (turn_on l.before.loop-i.invariant.0 l.loop-i-test.true
+          (rw (lt-ltb _ _ b.if-t-lo.false, lt-ltb _ _ a.if-c-t.false, said-yes w.before.waits_ok.ensures w.if-not-waits_ok.false-raw)
+          (said-yes (row-lent _ _ _ l.before.loop-i.i _ r.before.row_ok.ensures) r.if-not-row_ok.false-raw))),
+      l.before.loop-i.invariant.1,
     )
 
-loop2-holds : tie.Need-loop2-init invariant_loop decreases_loop invariant_loop2 decreases_loop2
-loop2-holds c = let a = c.before.loop in let h = a.invariant.0.high in
+loop2-holds : tie.Need-loop-i-2-init invariant_loop decreases_loop invariant_loop2 decreases_loop2
+loop2-holds c = let a = c.before.loop-i in let h = a.invariant.0.high in
     let s = c.before.before.before.before.before.args in
-    let e : a.i ≡ s.t1.count = omega arith in rw e
+    let e : a.i ≡ s.ts.count = omega arith in rw e
 
-loop2-again : tie.Need-loop2-preserved invariant_loop decreases_loop invariant_loop2 decreases_loop2
+loop2-again : tie.Need-loop-i-2-preserved invariant_loop decreases_loop invariant_loop2 decreases_loop2
 loop2-again c =
     let b = c.before.before.before.before in let l = b.before.before in
-    let at = l.before.before.before.before.args.t1.at in let k = b.loop2 in
-    k.invariant ∙ joined-next unused_rw at writers_max l.loop.invariant.0.len no_rw k.i (eqb k.left 0) _ (omega arith)
+    let at = l.before.before.before.before.args.ts.at in let k = b.loop-i-2 in
+    k.invariant ∙ joined-next unused_rw at writers_max l.loop-i.invariant.0.len no_rw k.i (eqb k.left 0) _ (omega arith)
     (joined_rw k.left (get_or at k.i no_rw))
 
-returns_7 : tie.Need-returns-7 invariant_loop decreases_loop invariant_loop2 decreases_loop2
-returns_7 c = let b = c.before.before in let l = b.before.before in let i = l.loop.invariant in
-    sym (turn_end i.0 b.before.loop-test.false ∙ rw (b.loop2.invariant, ne_eqb _ _ c.if7.true))
+returns_7 : tie.Need-returns-then-left-ne0 invariant_loop decreases_loop invariant_loop2 decreases_loop2
+returns_7 c = let b = c.before.before in let l = b.before.before in let i = l.loop-i.invariant in
+    sym (turn_end i.0 b.before.loop-i-test.false ∙ rw (b.loop-i-2.invariant, ne_eqb _ _ c.if-left-ne0.true))
 
-returns_8 : tie.Need-returns-8 invariant_loop decreases_loop invariant_loop2 decreases_loop2
-returns_8 c = let b = c.before.before.before in let l = b.before.before in let i = l.loop.invariant in
-    c.zeros-from.ensures ∙ sym (turn_end i.0 b.before.loop-test.false
+returns_8 : tie.Need-returns invariant_loop decreases_loop invariant_loop2 decreases_loop2
+returns_8 c = let b = c.before.before.before in let l = b.before.before in let i = l.loop-i.invariant in
+    c.zeros_from.ensures ∙ sym (turn_end i.0 b.before.loop-i-test.false
     ∙ rw (
-      b.loop2.invariant,
-      eq-eqb _ _ c.before.if7.false,
-      all_end l.before.before.before.before.args.t1.at writers_max i.0.len unused_rw b.loop2.i
+      b.loop-i-2.invariant,
+      eq-eqb _ _ c.before.if-left-ne0.false,
+      all_end l.before.before.before.before.args.ts.at writers_max i.0.len unused_rw b.loop-i-2.i
           (omega arith),
     ))
 

@@ -15,19 +15,19 @@ use Rattle.txn_sound.proofs.Laws.Joined.{joined-next, joined_word}
 use Rattle.txn_sound.proofs.zeros_from.Statement.{statement}
 use Rattle.txn_sound.proofs.zeros_from.Tie as tie
 
-abbrev invariant_loop : tie.invariant_loop
+abbrev invariant_loop : tie.invariant-loop-i
 invariant_loop xs from left₀ i₀ left i = zeros (drop from xs) ≡ eqb left 0 && zeros (drop i xs)
 
-abbrev decreases_loop : tie.decreases_loop
+abbrev decreases_loop : tie.decreases-loop-i
 decreases_loop xs from left₀ i₀ left i = length xs - i
 
-loop-again : tie.Need-loop-preserved invariant_loop decreases_loop
-loop-again c = let l = c.before.before.loop in let xs = c.before.before.before.args.xs.now in
+loop-again : tie.Need-loop-i-preserved invariant_loop decreases_loop
+loop-again c = let l = c.before.before.loop-i in let xs = c.before.before.before.args.xs.now in
     l.invariant ∙ joined-next (eqb 0) xs _ refl 0 l.i (eqb l.left 0) _ (omega arith)
     (joined_word l.left (get_or xs l.i 0))
 
 returns : tie.Need-returns invariant_loop decreases_loop
-returns c = let l = c.before.loop in let xs = c.before.before.args.xs.now in
+returns c = let l = c.before.loop-i in let xs = c.before.before.args.xs.now in
     sym (l.invariant ∙ ap (λ b. eqb l.left 0 && b) (all_end xs _ refl (eqb 0) l.i (omega arith)) ∙ and-true _)
 
 pub zeros_from_spec : {M : Type 1} → statement M

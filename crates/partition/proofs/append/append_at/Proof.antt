@@ -7,13 +7,13 @@ use Rattle.partition.proofs.Laws.Plan.{append_at-rows, append_at-entries, append
 use Rattle.partition.proofs.append.append_at.Statement.{statement}
 use Rattle.partition.proofs.append.append_at.Tie as tie
 
-returns : tie.Need-returns
+returns : tie.Need-returns-then-q-k
 returns c = c.stay.ensures ∙ sym (append_at-rows _ _ _ _ (omega arith))
 
-returns_2 : tie.Need-returns-2
-returns_2 c = c.stay2.ensures ∙ sym (append_at-entries _ _ _ _ (omega arith) (omega arith))
+returns_2 : tie.Need-returns-then-n-ge-ENTRIES_MAX
+returns_2 c = c.stay-then-n-ge-ENTRIES_MAX.ensures ∙ sym (append_at-entries _ _ _ _ (omega arith) (omega arith))
 
-returns_3 : tie.Need-returns-3
+returns_3 : tie.Need-returns
 returns_3 c = c.place.ensures ∙ sym (append_at-fits _ _ _ _ (omega arith) (omega arith))
 
 pub append_at_spec : {M : Type 1} → statement M

@@ -12,39 +12,39 @@ use Rattle.partition.proofs.append.append_plan.Statement.{statement}
 use Rattle.partition.proofs.append.append_plan.Tie as tie
 
 -- the words are in range
-passed : (c : tie.Else1) → in_range c.before.before.args.q ≡ true
-passed c = sym c.before.in-range.ensures ∙ not-false _ c.if1.false
+passed : (c : tie.Else-not-in_range) → in_range c.before.before.args.q ≡ true
+passed c = sym c.before.in_range.ensures ∙ not-false _ c.if-not-in_range.false-raw
 
-returns : tie.Need-returns
+returns : tie.Need-returns-then-not-in_range
 returns c = c.stay.ensures
-    ∙ sym (append_plan-out _ _ _ _ (sym c.before.before.in-range.ensures ∙ not-true _ c.before.if1.true))
+    ∙ sym (append_plan-out _ _ _ _ (sym c.before.before.in_range.ensures ∙ not-true _ c.before.if-not-in_range.true-raw))
 
-returns_2 : tie.Need-returns-2
-returns_2 c = c.stay2.ensures ∙ sym (append_plan-none _ _ _ _ (passed c.before.before) c.before.if2.true)
+returns_2 : tie.Need-returns-then-k-eq0
+returns_2 c = c.stay-then-k-eq0.ensures ∙ sym (append_plan-none _ _ _ _ (passed c.before.before) c.before.if-k-eq0.true)
 
-append-at_requires : tie.Need-append-at-requires
+append-at_requires : tie.Need-append_at-requires
 append-at_requires c κs = let w = within _ (passed c.before.before) in omega arith
 
-returns_3 : tie.Need-returns-3
+returns_3 : tie.Need-returns-then-n-eq0
 returns_3 c = c.append_at.ensures
-    ∙ sym (append_plan-first _ _ _ _ (passed c.before.before.before) c.before.before.if2.false
-    c.before.if3.true)
+    ∙ sym (append_plan-first _ _ _ _ (passed c.before.before.before) c.before.before.if-k-eq0.false
+    c.before.if-n-eq0.true)
 
-append-at_requires_2 : tie.Need-append-at-requires-2
+append-at_requires_2 : tie.Need-append_at-requires-then-does_grow
 append-at_requires_2 c κs = let w = within _ (passed c.before.before.before.before) in omega arith
 
-returns_4 : tie.Need-returns-4
-returns_4 c = let a = c.before.before.before in c.append-at2.ensures
-    ∙ sym (append_plan-grows _ _ _ _ (passed a.before.before) a.before.if2.false a.if3.false
-    (sym c.before.before.does-grow.ensures ∙ c.before.if4.true))
+returns_4 : tie.Need-returns-then-does_grow
+returns_4 c = let a = c.before.before.before in c.append_at-then-does_grow.ensures
+    ∙ sym (append_plan-grows _ _ _ _ (passed a.before.before) a.before.if-k-eq0.false a.if-n-eq0.false
+    (sym c.before.before.does_grow.ensures ∙ c.before.if-does_grow.true))
 
-append-at_requires_3 : tie.Need-append-at-requires-3
+append-at_requires_3 : tie.Need-append_at-requires-2
 append-at_requires_3 c κs = let w = within _ (passed c.before.before.before.before) in omega arith
 
-returns_5 : tie.Need-returns-5
-returns_5 c = let a = c.before.before.before in c.append-at3.ensures
-    ∙ sym (append_plan_adds _ _ _ _ (passed a.before.before) a.before.if2.false a.if3.false
-    (sym c.before.before.does-grow.ensures ∙ c.before.if4.false))
+returns_5 : tie.Need-returns
+returns_5 c = let a = c.before.before.before in c.append_at-2.ensures
+    ∙ sym (append_plan_adds _ _ _ _ (passed a.before.before) a.before.if-k-eq0.false a.if-n-eq0.false
+    (sym c.before.before.does_grow.ensures ∙ c.before.if-does_grow.false))
 
 pub append_plan_spec : {M : Type 1} → statement M
 append_plan_spec =

@@ -5,17 +5,19 @@ use Rattle.partition.specs.Append.{in_range}
 use Rattle.partition.proofs.append.in_range.Statement.{statement}
 use Rattle.partition.proofs.append.in_range.Tie as tie
 
-returns : tie.Need-returns
+returns : tie.Need-returns-then-q-ge-AREAS_MAX
 unfolding in_range
-returns c = rw (le-ltb _ _ c.if1.true)
+returns c = rw (le-ltb _ _ c.if-q-ge-AREAS_MAX.true)
 
-returns_2 : tie.Need-returns-2
+returns_2 : tie.Need-returns-then-q-gt-ROWS_MAX
 unfolding in_range
-returns_2 c = rw (lt-ltb _ _ c.before.before.if1.false, lt-leb _ _ c.if2.true)
+returns_2 c = rw (lt-ltb _ _ c.before.before.if-q-ge-AREAS_MAX.false, lt-leb _ _ c.if-q-gt-ROWS_MAX.true)
 
-returns_3 : tie.Need-returns-3
+returns_3 : tie.Need-returns
 unfolding in_range
-returns_3 c = let b = c.before in rw (lt-ltb _ _ b.before.before.if1.false, le-leb _ _ b.if2.false)
+returns_3 c = let b = c.before in rw (lt-ltb _ _ b.before.before.if-q-ge-AREAS_MAX.false, le-leb _ _ b.if-q-gt-ROWS_MAX.false)
 
 pub in_range_spec : {M : Type 1} → statement M
-in_range_spec = tie.close (tie.spec returns returns_2 returns_3)
+in_range_spec = tie.close (tie.spec returns
+    returns_2
+    returns_3)

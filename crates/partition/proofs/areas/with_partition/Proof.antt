@@ -8,9 +8,9 @@ use Rattle.partition.proofs.Laws.Places.{partitions_8}
 use Rattle.partition.proofs.areas.with_partition.Statement.{statement}
 use Rattle.partition.proofs.areas.with_partition.Tie as tie
 
-returns_2 : tie.Need-returns-2
+returns_2 : tie.Need-returns-else-p-lt-PARTITIONS_MAX
 returns_2 c =
-    let s = c.before in let a = s.args in let n = partitions_8 a.ps _ s.well-formed.0 in
+    let s = c.before in let a = s.args in let n = partitions_8 a.ps _ s.well_formed.0 in
     (λ i. record { at = sym (set_out a.ps.at a.p a.q (omega arith)) i; spare = a.ps.spare })
 
 pub with_partition_spec : {M : Type 1} → statement M

@@ -13,19 +13,19 @@ use Rattle.lists.proofs.Laws.Over.{over-nil, copy-next}
 use Rattle.partition.proofs.rows.copy.Statement.{statement}
 use Rattle.partition.proofs.rows.copy.Tie as tie
 
-abbrev invariant_loop : tie.invariant_loop
+abbrev invariant_loop : tie.invariant-loop-j
 invariant_loop rows₀ at batch j₀ rows j =
     (j ≤ length batch) × (rows ≡ over at (take j batch) rows₀) × (length rows ≡ length rows₀)
 
-abbrev decreases_loop : tie.decreases_loop
+abbrev decreases_loop : tie.decreases-loop-j
 decreases_loop rows₀ at batch j₀ rows j = length batch - j
 
-loop-holds : tie.Need-loop-init invariant_loop decreases_loop
+loop-holds : tie.Need-loop-j-init invariant_loop decreases_loop
 loop-holds c = (omega arith, sym (over-nil c.args.at c.args.rows.now), refl)
 
-loop-again : tie.Need-loop-preserved invariant_loop decreases_loop
+loop-again : tie.Need-loop-j-preserved invariant_loop decreases_loop
 loop-again c =
-    let s = c.before.before.before.args in let l = c.before.before.loop in (
+    let s = c.before.before.before.args in let l = c.before.before.loop-j in (
       search rules,
       rw l.invariant.1 (copy-next s.at s.batch.now s.rows.now 0 l.j (omega arith) (omega arith)),
       search rules,
@@ -34,8 +34,8 @@ loop-again c =
 returns : tie.Need-returns invariant_loop decreases_loop
 returns c =
     let s = c.before.before.args in
-    let all : c.before.loop.j ≡ length s.batch.now = omega arith in
-    rw (c.before.loop.invariant.1, all, take-length s.batch.now)
+    let all : c.before.loop-j.j ≡ length s.batch.now = omega arith in
+    rw (c.before.loop-j.invariant.1, all, take-length s.batch.now)
 
 pub copy_spec : {M : Type 1} → statement M
 copy_spec =

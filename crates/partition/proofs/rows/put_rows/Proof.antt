@@ -7,13 +7,13 @@ use Rattle.partition.proofs.Laws.Rows.{put_rows-fits, put_rows-out}
 use Rattle.partition.proofs.rows.put_rows.Statement.{statement}
 use Rattle.partition.proofs.rows.put_rows.Tie as tie
 
-returns : tie.Need-returns
+returns : tie.Need-returns-then-n-k
 returns c = sym (put_rows-out _ _ _ (omega arith))
 
-returns_2 : tie.Need-returns-2
+returns_2 : tie.Need-returns-then-n-k-2
 returns_2 c = sym (put_rows-out _ _ _ (omega arith))
 
-returns_3 : tie.Need-returns-3
+returns_3 : tie.Need-returns
 returns_3 c = c.before.before.copy.ensures ∙ sym (put_rows-fits _ _ _ (omega arith))
 
 pub put_rows_spec : {M : Type 1} → statement M
