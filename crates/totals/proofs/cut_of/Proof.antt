@@ -5,4 +5,5 @@ use Rattle.totals.proofs.cut_of.Tie as tie
 
 pub cut_of_spec : {M : Type 1} → statement M
 cut_of_spec =
-    tie.close (tie.spec (λ c. search tests) (λ c. search tests))
+    tie.close (tie.spec (λ c. search tests)
+    (λ c. search tests))

@@ -10,4 +10,4 @@ cuts_of_spec =
     (λ c κs. search rules)
     (λ c κs. search rules)
     (λ c κs. search rules)
-    (λ c. rw (c.cut-of2.ensures, c.before.cut-of.ensures, c.before.before.row-base.ensures)))
+    (λ c. rw (c.cut_of-d.ensures, c.before.cut_of-c.ensures, c.before.before.row_base-base.ensures)))

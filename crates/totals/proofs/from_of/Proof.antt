@@ -8,4 +8,7 @@ use Rattle.totals.proofs.from_of.Tie as tie
 pub from_of_spec : {M : Type 1} → statement M
 unfolding from_of
 from_of_spec =
-    tie.close (tie.spec (λ c. search tests) (λ c. search tests) (λ c. search rules) (λ c. search tests))
+    tie.close (tie.spec (λ c. search tests)
+    (λ c. search tests)
+    (λ c. search rules)
+    (λ c. search tests))

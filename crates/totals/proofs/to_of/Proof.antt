@@ -9,4 +9,8 @@ pub to_of_spec : {M : Type 1} → statement M
 unfolding to_of
 to_of_spec =
     tie.close
-    (tie.spec (λ c. search tests) (λ c. search tests) (λ c. search rules) (λ c. search rules) (λ c. search tests))
+    (tie.spec (λ c. search tests)
+    (λ c. search tests)
+    (λ c. search rules)
+    (λ c. search rules)
+    (λ c. search tests))

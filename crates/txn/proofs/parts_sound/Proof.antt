@@ -9,6 +9,6 @@ pub parts_sound_spec : {M : Type 1} → statement M
 parts_sound_spec =
     tie.close
     (tie.spec
-    (λ c. rw (not-true c.before.before.args.rest c.if1.true))
+    (λ c. rw (not-true c.before.before.args.rest c.if-not-rest.true-raw))
     (λ c κs. search rules)
-    (λ c. rw (not-false c.before.before.before.args.rest c.before.if1.false) c.parts-ok.ensures))
+    (λ c. rw (not-false c.before.before.before.args.rest c.before.if-not-rest.false-raw) c.parts_ok.ensures))

@@ -6,8 +6,8 @@ use Rattle.session_line.proofs.Laws.Shown.{bit_past}
 use Rattle.session_line.proofs.shown.is_one.Statement.{statement}
 use Rattle.session_line.proofs.shown.is_one.Tie as tie
 
-returns : tie.Need-returns
-returns c = let a = c.before.args in sym (bit_past a.bitmap.now a.i c.if1.true)
+returns : tie.Need-returns-then-bitmap-at
+returns c = let a = c.before.args in sym (bit_past a.bitmap.now a.i c.if-bitmap-at.true)
 
 pub is_one_spec : {M : Type 1} → statement M
 is_one_spec =

@@ -7,8 +7,8 @@ use Rattle.session_line.proofs.turn.batch_of.Tie as tie
 
 returns : tie.Need-returns
 returns c = let j = c.before in let r = j.before in let i = r.before in let a = i.before.before.args in
-    rw (← r.rows_of_lem.ensures) (batch-part a.numbers.now r.rows_of_lem.result _ _ i.in_use.ensures
-    j.in-use2.ensures)
+    rw (← r.rows_of.ensures) (batch-part a.numbers.now r.rows_of.result _ _ i.in_use-from.ensures
+    j.in_use.ensures)
 
 pub batch_of_spec : {M : Type 1} → statement M
 batch_of_spec =

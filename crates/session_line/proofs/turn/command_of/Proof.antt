@@ -11,5 +11,5 @@ command_of_spec =
     (tie.spec
     (λ c. search rules)
     (λ c. search rules)
-    (λ c. rw c.enum_told.given.1 refl)
+    (λ c. rw c.in-Bad.is refl)
     (λ c. search rules))

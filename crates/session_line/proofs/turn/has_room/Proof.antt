@@ -9,9 +9,10 @@ use Rattle.session_line.specs.Rooms.{answer_max}
 use Rattle.session_line.proofs.turn.has_room.Statement.{statement}
 use Rattle.session_line.proofs.turn.has_room.Tie as tie
 
-returns : tie.Need-returns
+returns : tie.Need-returns-then-room-written
 returns c = let a = c.before.args in
-    sym (lt-leb answer_max (a.room - a.written) (omega (arith, c.if1.true)))
+    sym (lt-leb answer_max (a.room - a.written) (omega (arith, c.if-room-written.true)))
 
 pub has_room_spec : {M : Type 1} → statement M
-has_room_spec = tie.close (tie.spec returns (λ c. search rules))
+has_room_spec = tie.close (tie.spec returns
+    (λ c. search rules))

@@ -7,7 +7,7 @@ use Rattle.session_line.proofs.turn.read_line.Tie as tie
 returns : tie.Need-returns
 returns c = let p = c.before.before in let j = p.before.before.before in let i = j.before in
     let r = p.parse.ensures in
-    rw (← i.in_use.ensures, ← j.in-use2.ensures) (r.0, rw (← r.0) r.1)
+    rw (← i.in_use-end.ensures, ← j.in_use-from.ensures) (r.0, rw (← r.0) r.1)
 
 pub read_line_spec : {M : Type 1} → statement M
 read_line_spec =

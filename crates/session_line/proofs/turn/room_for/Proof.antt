@@ -10,5 +10,5 @@ pub room_for_spec : {M : Type 1} → statement M
 room_for_spec =
     tie.close
     (tie.spec
-    (λ c. rw (lt-leb numbers_max c.before.args.numbers c.if1.true) refl)
-    (λ c. rw (le-leb numbers_max c.before.args.numbers c.if1.false) refl))
+    (λ c. rw (lt-leb numbers_max c.before.args.numbers c.if-numbers-lt-NUMBERS_MAX.true) refl)
+    (λ c. rw (le-leb numbers_max c.before.args.numbers c.if-numbers-lt-NUMBERS_MAX.false) refl))

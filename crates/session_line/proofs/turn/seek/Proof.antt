@@ -7,13 +7,16 @@ use borrow.Author.Tests.{eq-eqb, ne_eqb}
 use Rattle.session_line.proofs.turn.seek.Statement.{statement}
 use Rattle.session_line.proofs.turn.seek.Tie as tie
 
-returns : tie.Need-returns
-returns c = let l = c.before.line-end in let a = c.before.before.before.args in
-    rw (← l.ensures, eq-eqb l.result (length a.input.now) c.if1.true) refl
+returns : tie.Need-returns-then-end-input
+returns c = let l = c.before.line_end-end in let a = c.before.before.before.args in
+    rw (← l.ensures, eq-eqb l.result (length a.input.now) c.if-end-input.true) refl
 
-returns_2 : tie.Need-returns-2
-returns_2 c = let e = c.before in let l = e.before.line-end in let a = e.before.before.before.args in
-    rw (← l.ensures, ne_eqb l.result (length a.input.now) e.if1.false, ← c.has_room.ensures) refl
+returns_2 : tie.Need-returns-else-end-input
+returns_2 c = let e = c.before in let l = e.before.line_end-end in let a = e.before.before.before.args in
+    rw (← l.ensures, ne_eqb l.result (length a.input.now) e.if-end-input.false, ← c.has_room-more.ensures) refl
 
 pub seek_spec : {M : Type 1} → statement M
-seek_spec = tie.close (tie.spec (λ c κs. search rules) (λ c κs. search rules) returns returns_2)
+seek_spec = tie.close (tie.spec (λ c κs. search rules)
+    (λ c κs. search rules)
+    returns
+    returns_2)

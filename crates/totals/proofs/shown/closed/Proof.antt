@@ -14,4 +14,4 @@ closed_spec =
     (λ c. search tests)
     (λ c κs. search rules)
     (λ c κs. search rules)
-    (λ c. c.add.ensures ∙ rw c.before.weigh.ensures (search tests)))
+    (λ c. c.add.ensures ∙ rw c.before.weigh-w.ensures (search tests)))

@@ -7,4 +7,7 @@ use Rattle.totals.proofs.shown.is_shown.Tie as tie
 pub is_shown_spec : {M : Type 1} → statement M
 unfolding shows
 is_shown_spec =
-    tie.close (tie.spec (λ c. search tests) (λ c. search tests) (λ c. search tests) (λ c. search tests))
+    tie.close (tie.spec (λ c. search tests)
+    (λ c. search tests)
+    (λ c. search tests)
+    (λ c. search tests))

@@ -15,5 +15,5 @@ landed_spec =
     (λ c κs. search rules)
     (λ c κs. search rules)
     (λ c. let s = c.before.before in
-    c.add.ensures ∙ rw (c.before.weigh.ensures, said s.before.is-shown.ensures s.if1.true))
-    (λ c. rw (said c.before.is-shown.ensures c.if1.false)))
+    c.add.ensures ∙ rw (c.before.weigh-w.ensures, said s.before.is_shown.ensures s.if-is_shown.true))
+    (λ c. rw (said c.before.is_shown.ensures c.if-is_shown.false)))

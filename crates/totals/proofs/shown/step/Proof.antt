@@ -9,8 +9,8 @@ step_spec =
     tie.close
     (tie.spec
     (λ c κs. search rules)
-    (λ c. rw (said c.before.is-shown.ensures c.if1.true))
+    (λ c. rw (said c.before.is_shown.ensures c.if-is_shown.true))
     (λ c κs. search rules)
     (λ c κs. search rules)
     (λ c. let s = c.before.before in
-    rw (said s.before.is-shown.ensures s.if1.false, c.before.closed.ensures, c.landed.ensures)))
+    rw (said c.before.before.before.before.is_shown.ensures c.before.before.before.if-is_shown.false, c.before.before.closed-sum.ensures, c.landed-more.ensures)))

@@ -8,4 +8,7 @@ use Rattle.totals.proofs.weigh.add.Tie as tie
 pub add_spec : {M : Type 1} → statement M
 unfolding plus
 add_spec =
-    tie.close (tie.spec (λ c. search tests) (λ c. search tests) (λ c. search rules) (λ c. search tests))
+    tie.close (tie.spec (λ c. search tests)
+    (λ c. search tests)
+    (λ c. search rules)
+    (λ c. search tests))

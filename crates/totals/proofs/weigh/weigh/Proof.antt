@@ -9,15 +9,15 @@ use Rattle.totals.proofs.Laws.Tallied.{weighed-rows, weighed-short}
 use Rattle.totals.proofs.weigh.weigh.Statement.{statement}
 use Rattle.totals.proofs.weigh.weigh.Tie as tie
 
-returns_3 : tie.Need-returns-3
+returns_3 : tie.Need-returns-then-n-to
 returns_3 c = let s = c.before.before.before.before.args in
     sym (weighed-short s.rows.now s.base s.from s.to (omega arith))
 
-returns_4 : tie.Need-returns-4
+returns_4 : tie.Need-returns-then-n-to-2
 returns_4 c = let s = c.before.before.before.before.before.args in
     sym (weighed-short s.rows.now s.base s.from s.to (omega arith))
 
-returns_5 : tie.Need-returns-5
+returns_5 : tie.Need-returns
 returns_5 c = let s = c.before.before.before.before.before.before.before.args in let rs = s.rows.now in
     let e : (s.base + s.to) - (s.base + s.from) ≡ s.to - s.from = omega arith in
     c.sum.ensures ∙ rw e (sym (weighed-rows rs s.base s.from s.to (omega arith) (omega arith) (omega arith)))

@@ -18,26 +18,26 @@ use borrow.Author.Rules.{rules}
 use Rattle.visible.proofs.delete.find_top.Statement.{statement}
 use Rattle.visible.proofs.delete.find_top.Tie as tie
 
-abbrev invariant_loop : tie.invariant_loop
+abbrev invariant_loop : tie.invariant-loop-i
 invariant_loop v deps n t m top₀ i₀ top i = (i ≤ m) × (m ≡ min n entries_max) × (length t.at ≡ entries_max)
     × (top_delete (sees_view v deps) (bare 0 (take n t.at))
     ≡ top_from (sees_view v deps) i (as_top top) (bare 0 (drop i (take n t.at))))
 
-abbrev decreases_loop : tie.decreases_loop
+abbrev decreases_loop : tie.decreases-loop-i
 decreases_loop v deps n t m top₀ i₀ top i = m - i
 
-loop-holds : tie.Need-loop-init invariant_loop decreases_loop
+loop-holds : tie.Need-loop-i-init invariant_loop decreases_loop
 loop-holds c = let s = c.before.before in
-    (omega arith, c.in_use.ensures, area-length s.args.t3 _ s.well-formed.1.1.0, refl)
+    (omega arith, c.in_use-m.ensures, area-length s.args.t _ s.well_formed.1.1.0, refl)
 
-loop-again : tie.Need-loop-preserved invariant_loop decreases_loop
-loop-again c = let l = c.before.before.before.loop in
+loop-again : tie.Need-loop-i-preserved invariant_loop decreases_loop
+loop-again c = let l = c.before.before.before.loop-i in
     let a = c.before.before.before.before.before.before.args in
-    let at = a.t3.at in let u = l.invariant.1 in (
+    let at = a.t.at in let u = l.invariant.1 in (
       search rules,
       l.invariant.1,
       l.invariant.2,
-      rw c.top-step.ensures (l.invariant.3
+      rw c.top_step-top.ensures (l.invariant.3
           ∙ rw (used-next at a.n entries_max l.invariant.2 none l.i (omega arith))
           (top-next (sees_view a.v a.deps.now) l.i (as_top l.top) (get_or at l.i none) 0 0
           (drop (l.i + 1) (take a.n at)))),
@@ -45,8 +45,8 @@ loop-again c = let l = c.before.before.before.loop in
 
 returns : tie.Need-returns invariant_loop decreases_loop
 unfolding bare top_from
-returns c = let l = c.before.loop in let a = c.before.before.before.before.args in let u = l.invariant.1 in
-    sym (l.invariant.3 ∙ rw (used-end a.t3.at a.n entries_max l.invariant.2 l.i (omega arith)))
+returns c = let l = c.before.loop-i in let a = c.before.before.before.before.args in let u = l.invariant.1 in
+    sym (l.invariant.3 ∙ rw (used-end a.t.at a.n entries_max l.invariant.2 l.i (omega arith)))
 
 pub find_top_spec : {M : Type 1} → statement M
 find_top_spec =

@@ -4,14 +4,16 @@ use borrow.Author.Tests.{le-leb, lt-leb, eq-eqb, ne_eqb}
 use Rattle.visible.proofs.ends.end_ok.Statement.{statement}
 use Rattle.visible.proofs.ends.end_ok.Tie as tie
 
-returns : tie.Need-returns
-returns c = simp (lt-leb _ _ c.if1.true)
+returns : tie.Need-returns-then-e-from
+returns c = simp (lt-leb _ _ c.if-e-from.true)
 
-returns_2 : tie.Need-returns-2
-returns_2 c = simp (le-leb _ _ c.before.before.if1.false, eq-eqb _ _ c.if2.true)
+returns_2 : tie.Need-returns-then-e-eq1
+returns_2 c = simp (le-leb _ _ c.before.before.if-e-from.false, eq-eqb _ _ c.if-e-eq1.true)
 
-returns_3 : tie.Need-returns-3
-returns_3 c = simp (le-leb _ _ c.before.before.before.if1.false, ne_eqb _ _ c.before.if2.false)
+returns_3 : tie.Need-returns
+returns_3 c = simp (le-leb _ _ c.before.before.before.if-e-from.false, ne_eqb _ _ c.before.if-e-eq1.false)
 
 pub end_ok_spec : {M : Type 1} → statement M
-end_ok_spec = tie.close (tie.spec returns returns_2 returns_3)
+end_ok_spec = tie.close (tie.spec returns
+    returns_2
+    returns_3)

@@ -12,48 +12,48 @@ use borrow.Author.Rules.{rules}
 use Rattle.visible.proofs.pack.byte_at.Statement.{statement}
 use Rattle.visible.proofs.pack.byte_at.Tie as tie
 
-abbrev invariant_loop : tie.invariant_loop
+abbrev invariant_loop : tie.invariant-loop-k
 invariant_loop shown from byte₀ k₀ byte k = (k ≤ 8) × (byte ≡ byte_of (take (8 - k) (drop (from + k) shown)))
 
-abbrev decreases_loop : tie.decreases_loop
+abbrev decreases_loop : tie.decreases-loop-k
 decreases_loop shown from byte₀ k₀ byte k = k
 
-loop-holds : tie.Need-loop-init invariant_loop decreases_loop
+loop-holds : tie.Need-loop-k-init invariant_loop decreases_loop
 unfolding byte_of
 loop-holds c = (search rules, refl)
 
 -- the byte with one more flag, below the others
-made : (c : tie.After-bit invariant_loop decreases_loop) → let l = c.before.before.before.loop in
+made : (c : tie.After-bit invariant_loop decreases_loop) → let l = c.before.before.before.loop-k in
     let a = c.before.before.before.before.before.args in let at = a.from + (l.k - 1) in
     c.bit.result + 2 * l.byte ≡ byte_of (take (8 - (l.k - 1)) (drop at a.shown.now))
-made c = let l = c.before.before.before.loop in let s = c.before.before.before.before.before in
-    let at = s.args.from + (l.k - 1) in let h = c.before.before.loop-test.true in
+made c = let l = c.before.before.before.loop-k in let s = c.before.before.before.before.before in
+    let at = s.args.from + (l.k - 1) in let h = c.before.before.loop-k-test.true in
     let m : 8 - (l.k - 1) ≡ suc (8 - l.k) = omega arith in
     let next : suc at ≡ s.args.from + l.k = omega arith in
     rw (c.bit.ensures, l.invariant.1, m)
     (sym (rw next at (byte-cons s.args.shown.now at (8 - l.k) (omega (arith, s.requires)))))
 
-small : (c : tie.After-bit invariant_loop decreases_loop) → c.bit.result + 2 * c.before.before.before.loop.byte < 256
-small c = let l = c.before.before.before.loop in let a = c.before.before.before.before.before.args in
-    let h = c.before.before.loop-test.true in
+small : (c : tie.After-bit invariant_loop decreases_loop) → c.bit.result + 2 * c.before.before.before.loop-k.byte < 256
+small c = let l = c.before.before.before.loop-k in let a = c.before.before.before.before.before.args in
+    let h = c.before.before.loop-k-test.true in
     rw (made c)
     (byte_fits (drop (a.from + (l.k - 1)) a.shown.now) (8 - (l.k - 1)) (omega (arith, h, l.invariant.0)))
 
 one : (c : tie.After-bit invariant_loop decreases_loop) → c.bit.result ≤ 1
-one c = let l = c.before.before.before.loop in let a = c.before.before.before.before.before.args in
+one c = let l = c.before.before.before.loop-k in let a = c.before.before.before.before.before.args in
     rw c.bit.ensures (bit_le (get_or a.shown.now (a.from + (l.k - 1)) false))
 
-mul-byte : tie.Need-overflow-mul-byte invariant_loop decreases_loop
+mul-byte : tie.Need-overflow_mul-byte invariant_loop decreases_loop
 mul-byte c = omega (arith, small c, one c)
 
-add-byte : tie.Need-overflow-add-byte invariant_loop decreases_loop
+add-byte : tie.Need-overflow_add-byte invariant_loop decreases_loop
 add-byte c = omega (arith, small c, one c)
 
-loop-again : tie.Need-loop-preserved invariant_loop decreases_loop
+loop-again : tie.Need-loop-k-preserved invariant_loop decreases_loop
 loop-again c = (search rules, made c)
 
 returns : tie.Need-returns invariant_loop decreases_loop
-returns c = let l = c.before.loop in let a = c.before.before.before.args in
+returns c = let l = c.before.loop-k in let a = c.before.before.before.args in
     let z : l.k ≡ 0 = omega arith in let f : a.from + 0 ≡ a.from = omega arith in
     l.invariant.1 ∙ rw (z, f)
 

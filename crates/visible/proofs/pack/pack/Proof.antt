@@ -13,19 +13,19 @@ use borrow.Author.Rules.{rules}
 use Rattle.visible.proofs.pack.pack.Statement.{statement}
 use Rattle.visible.proofs.pack.pack.Tie as tie
 
-abbrev invariant_loop : tie.invariant_loop
+abbrev invariant_loop : tie.invariant-loop-j
 invariant_loop shown n bitmap₀ j₀ bitmap j =
     (j ≤ n) × (length bitmap ≡ length bitmap₀) × (bitmap ≡ packed j shown ++ drop j bitmap₀)
 
-abbrev decreases_loop : tie.decreases_loop
+abbrev decreases_loop : tie.decreases-loop-j
 decreases_loop shown n bitmap₀ j₀ bitmap j = n - j
 
-loop-holds : tie.Need-loop-init invariant_loop decreases_loop
+loop-holds : tie.Need-loop-j-init invariant_loop decreases_loop
 unfolding packed
 loop-holds c = (search rules, refl, refl)
 
-loop-again : tie.Need-loop-preserved invariant_loop decreases_loop
-loop-again c = let l = c.before.before.loop in let a = c.before.before.before.before.before.args in (
+loop-again : tie.Need-loop-j-preserved invariant_loop decreases_loop
+loop-again c = let l = c.before.before.loop-j in let a = c.before.before.before.before.before.args in (
   search rules,
   search rules,
   rw (c.byte_at.ensures, l.invariant.2, add-one)
@@ -33,8 +33,8 @@ loop-again c = let l = c.before.before.loop in let a = c.before.before.before.be
 )
 
 returns : tie.Need-returns invariant_loop decreases_loop
-returns c = let all : c.before.loop.j ≡ c.before.before.before.before.args.n = omega arith in
-    rw all at c.before.loop.invariant.2
+returns c = let all : c.before.loop-j.j ≡ c.before.before.before.before.args.n = omega arith in
+    rw all at c.before.loop-j.invariant.2
 
 pub pack_spec : {M : Type 1} → statement M
 pack_spec =

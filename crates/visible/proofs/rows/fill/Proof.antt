@@ -12,32 +12,32 @@ use borrow.Author.Rules.{rules}
 use Rattle.visible.proofs.rows.fill.Statement.{statement}
 use Rattle.visible.proofs.rows.fill.Tie as tie
 
-abbrev invariant_loop : tie.invariant_loop
+abbrev invariant_loop : tie.invariant-loop-i
 invariant_loop shown₀ from to b i₀ shown i =
     (from ≤ i) × (i ≤ to) × (length shown ≡ length shown₀) × (shown ≡ over from (replicate (i - from) b) shown₀)
 
-abbrev decreases_loop : tie.decreases_loop
+abbrev decreases_loop : tie.decreases-loop-i
 decreases_loop shown₀ from to b i₀ shown i = to - i
 
-loop-holds : tie.Need-loop-init invariant_loop decreases_loop
+loop-holds : tie.Need-loop-i-init invariant_loop decreases_loop
 loop-holds c = let a = c.args in let z : a.from - a.from ≡ 0 = omega arith in
     (search rules, search rules, refl, rw z (sym (over-nil a.from a.shown.now)))
 
-loop-again : tie.Need-loop-preserved invariant_loop decreases_loop
-loop-again c = let a = c.before.before.args in let l = c.before.loop in (
+loop-again : tie.Need-loop-i-preserved invariant_loop decreases_loop
+loop-again c = let a = c.before.before.args in let l = c.before.loop-i in (
   search rules,
   search rules,
   search rules,
   rw l.invariant.3 (fill-next a.shown.now a.from l.i a.b l.invariant.0 (omega arith)),
 )
 
-returns : tie.Need-returns invariant_loop decreases_loop
-returns c = let l = c.before.before.loop in let a = c.before.before.before.args in
-    let all : l.i ≡ a.to = omega arith in (rw c.if1.true, rw all at l.invariant.3)
+returns : tie.Need-returns-then-b invariant_loop decreases_loop
+returns c = let l = c.before.before.loop-i in let a = c.before.before.before.args in
+    let all : l.i ≡ a.to = omega arith in (rw c.if-b.true, rw all at l.invariant.3)
 
-returns_2 : tie.Need-returns-2 invariant_loop decreases_loop
-returns_2 c = let l = c.before.before.loop in let a = c.before.before.before.args in
-    let all : l.i ≡ a.to = omega arith in (rw c.if1.false, rw all at l.invariant.3)
+returns_2 : tie.Need-returns invariant_loop decreases_loop
+returns_2 c = let l = c.before.before.loop-i in let a = c.before.before.before.args in
+    let all : l.i ≡ a.to = omega arith in (rw c.if-b.false, rw all at l.invariant.3)
 
 pub fill_spec : {M : Type 1} → statement M
 fill_spec =

@@ -18,72 +18,72 @@ use borrow.Author.Rules.{rules}
 use Rattle.visible.proofs.rows.show.Statement.{statement}
 use Rattle.visible.proofs.rows.show.Tie as tie
 
-abbrev invariant_loop : tie.invariant_loop
+abbrev invariant_loop : tie.invariant-loop-i
 invariant_loop v deps n top shown₀ t count₀ from₀ i₀ shown count from i = (i ≤ n) × (length t.at ≡ entries_max)
     × (length shown ≡ length shown₀) × Laid (sees_view v deps) (as_top top) (take n t.at) i from count shown
 
-abbrev decreases_loop : tie.decreases_loop
+abbrev decreases_loop : tie.decreases-loop-i
 decreases_loop v deps n top shown₀ t count₀ from₀ i₀ shown count from i = n - i
 
-loop-holds : tie.Need-loop-init invariant_loop decreases_loop
-loop-holds c = let a = c.before.before.args in let at = a.t3.at in (
+loop-holds : tie.Need-loop-i-init invariant_loop decreases_loop
+loop-holds c = let a = c.before.before.args in let at = a.t.at in (
   search rules,
-  area-length a.t3 _ c.before.before.well-formed.1.1.0,
+  area-length a.t _ c.before.before.well_formed.1.1.0,
   refl,
   laid_none (sees_view a.v a.deps.now) (as_top a.top) (take a.n at) a.shown.now
       c.before.before.requires.1,
 )
 
 -- in a turn: the entry at i, and those after it
-abbrev S : tie.In-loop invariant_loop decreases_loop → tie.Start invariant_loop decreases_loop
+abbrev S : tie.In-loop-i invariant_loop decreases_loop → tie.Start invariant_loop decreases_loop
 S k = k.before.before.before.before
 
-abbrev E : tie.In-loop invariant_loop decreases_loop → Entry
-E k = get_or (S k).args.t3.at k.before.loop.i none
+abbrev E : tie.In-loop-i invariant_loop decreases_loop → Entry
+E k = get_or (S k).args.t.at k.before.loop-i.i none
 
 -- the table's entries in use, and where they are laid
-abbrev Es : tie.In-loop invariant_loop decreases_loop → List Entry
-Es k = take (S k).args.n (S k).args.t3.at
+abbrev Es : tie.In-loop-i invariant_loop decreases_loop → List Entry
+Es k = take (S k).args.n (S k).args.t.at
 
-here : (k : tie.In-loop invariant_loop decreases_loop)
-    → drop k.before.loop.i (Es k) ≡ E k ∷ drop (k.before.loop.i + 1) (Es k)
+here : (k : tie.In-loop-i invariant_loop decreases_loop)
+    → drop k.before.loop-i.i (Es k) ≡ E k ∷ drop (k.before.loop-i.i + 1) (Es k)
 here k = let h = (S k).requires.0 in
-    used-next (S k).args.t3.at (S k).args.n entries_max k.before.loop.invariant.1 none k.before.loop.i
+    used-next (S k).args.t.at (S k).args.n entries_max k.before.loop-i.invariant.1 none k.before.loop-i.i
     (omega arith)
 
-turn : (k : tie.In-loop invariant_loop decreases_loop) → let a = (S k).args in let l = k.before.loop in
+turn : (k : tie.In-loop-i invariant_loop decreases_loop) → let a = (S k).args in let l = k.before.loop-i in
     Turn (sees_view a.v a.deps.now) (as_top a.top) (Es k) l.i l.from l.count l.shown (E k)
-turn k = let a = (S k).args in let l = k.before.loop in
+turn k = let a = (S k).args in let l = k.before.loop-i in
     laid-turn (sees_view a.v a.deps.now) (as_top a.top) (Es k) l.i l.from l.count l.shown
     l.invariant.3 (E k) (here k)
 
-fill_requires : tie.Need-fill-requires invariant_loop decreases_loop
+fill_requires : tie.Need-fill-count-requires invariant_loop decreases_loop
 fill_requires c κs = let t = turn c.before.before.before in (t.low, t.high)
 
 -- and with it the entries up to i are laid
-abbrev this : tie.After-slice-known2 invariant_loop decreases_loop → tie.In-loop invariant_loop decreases_loop
+abbrev this : tie.After-slice_known-in-loop-i-1 invariant_loop decreases_loop → tie.In-loop-i invariant_loop decreases_loop
 this c = c.before.before.before.before.before.before
 
-next : (c : tie.After-slice-known2 invariant_loop decreases_loop) → let k = this c in let a = (S k).args in let l = k.before.loop in
-    let r = c.before.before.fill in
+next : (c : tie.After-slice_known-in-loop-i-1 invariant_loop decreases_loop) → let k = this c in let a = (S k).args in let l = k.before.loop-i in
+    let r = c.before.before.fill-count in
     Laid (sees_view a.v a.deps.now) (as_top a.top) (Es k) (l.i + 1) (E k).end (l.count + r.result)
-    r.new.0
-next c = let r = c.before.before.fill in let b = c.before.before.before.before.shows in
-    (turn (this c)).next b.result r.result r.new.0 b.ensures r.ensures.0 r.ensures.1
+    r.new.shown
+next c = let r = c.before.before.fill-count in let b = c.before.before.before.before.shows-b in
+    (turn (this c)).next b.result r.result r.new.shown b.ensures r.ensures.0 r.ensures.1
 
-add-count : tie.Need-overflow-add-count invariant_loop decreases_loop
+add-count : tie.Need-overflow_add-count invariant_loop decreases_loop
 add-count c = omega (arith, (next c).few, (turn (this c)).high, (S (this c)).good)
 
-loop-again : tie.Need-loop-preserved invariant_loop decreases_loop
+loop-again : tie.Need-loop-i-preserved invariant_loop decreases_loop
 loop-again c = (
   search rules,
   search rules,
-  c.before.before.fill.auto.0 ∙ (this c).before.loop.invariant.2,
+  c.before.before.fill-count.auto.shown ∙ (this c).before.loop-i.invariant.2,
   next c,
 )
 
 returns : tie.Need-returns invariant_loop decreases_loop
-returns c = let l = c.before.loop in let a = c.before.before.before.before.args in let at = a.t3.at in
+returns c = let l = c.before.loop-i in let a = c.before.before.before.before.args in let at = a.t.at in
     laid-all (sees_view a.v a.deps.now) (as_top a.top) (take a.n at) l.i l.from l.count l.shown
     l.invariant.3 (used-end at a.n entries_max l.invariant.1 l.i (omega arith))
 

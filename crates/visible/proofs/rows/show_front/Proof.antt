@@ -6,7 +6,7 @@ use borrow.Author.Rules.{rules}
 use Rattle.visible.proofs.rows.show_front.Statement.{statement}
 use Rattle.visible.proofs.rows.show_front.Tie as tie
 
-slice_aggregate-show : tie.Need-slice-aggregate-show
+slice_aggregate-show : tie.Need-slice_bounds-show-end-2
 slice_aggregate-show c = let s = c.before.before.before in
     sym (length-take-le s.args.rows s.args.shown.now s.requires.1)
 

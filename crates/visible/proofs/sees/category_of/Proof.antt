@@ -15,14 +15,18 @@ use Rattle.visible.proofs.sees.category_of.Tie as tie
 earlier : (i j : ℕ) → (j ≡ i → ⊥) → j ≤ i → ltb j i ≡ true
 earlier i j n h = lt-ltb j i (omega (arith, n, h))
 
-returns_3 : tie.Need-returns-3
+returns_3 : tie.Need-returns-then-in_deps
 returns_3 c = let k = c.before.before in
-    rw (earlier _ _ k.before.if1.false k.if2.false, said c.before.in-deps.ensures c.if3.true)
+    rw (earlier _ _ k.before.if-j-i.false k.if-i-j.false, said c.before.in_deps.ensures c.if-in_deps.true)
 
-returns_4 : tie.Need-returns-4
+returns_4 : tie.Need-returns
 returns_4 c = let k = c.before.before in
-    rw (earlier _ _ k.before.if1.false k.if2.false, said c.before.in-deps.ensures c.if3.false)
+    rw (earlier _ _ k.before.if-j-i.false k.if-i-j.false, said c.before.in_deps.ensures c.if-in_deps.false)
 
 pub category_of_spec : {M : Type 1} → statement M
 category_of_spec =
-    tie.close (tie.spec (λ c. search tests) (λ c. search tests) (λ c κs. search rules) returns_3 returns_4)
+    tie.close (tie.spec (λ c. search tests)
+    (λ c. search tests)
+    (λ c κs. search rules)
+    returns_3
+    returns_4)

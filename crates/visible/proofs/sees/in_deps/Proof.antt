@@ -11,29 +11,29 @@ use Rattle.lists.proofs.Laws.Places.{from_next}
 use Rattle.visible.proofs.sees.in_deps.Statement.{statement}
 use Rattle.visible.proofs.sees.in_deps.Tie as tie
 
-abbrev invariant_loop : tie.invariant_loop
+abbrev invariant_loop : tie.invariant-loop-i
 invariant_loop deps j i₀ i = (i ≤ length deps) × (elem j deps ≡ elem j (drop i deps))
 
-abbrev decreases_loop : tie.decreases_loop
+abbrev decreases_loop : tie.decreases-loop-i
 decreases_loop deps j i₀ i = length deps - i
 
-returns : tie.Need-returns invariant_loop decreases_loop
-returns c = let b = c.before.before.before in let l = b.loop in let a = b.before.args in
+returns : tie.Need-returns-then-j-deps invariant_loop decreases_loop
+returns c = let b = c.before.before.before in let l = b.loop-i in let a = b.before.args in
     sym (l.invariant.1 ∙ rw (
-      from_next a.deps.now 0 l.i c.before.before.loop-test.true,
-      eq-eqb _ _ c.if1.true,
+      from_next a.deps.now 0 l.i c.before.before.loop-i-test.true,
+      eq-eqb _ _ c.if-j-deps.true,
     ))
 
-loop-again : tie.Need-loop-preserved invariant_loop decreases_loop
-loop-again c = let b = c.before.before.before in let l = b.loop in let a = b.before.args in (
+loop-again : tie.Need-loop-i-preserved invariant_loop decreases_loop
+loop-again c = let b = c.before.before.before in let l = b.loop-i in let a = b.before.args in (
   search rules,
   l.invariant.1
-      ∙ rw (from_next a.deps.now 0 l.i c.before.before.loop-test.true, ne_eqb _ _ c.if1.false),
+      ∙ rw (from_next a.deps.now 0 l.i c.before.before.loop-i-test.true, ne_eqb _ _ c.if-j-deps.false),
 )
 
-returns_2 : tie.Need-returns-2 invariant_loop decreases_loop
-returns_2 c = let l = c.before.loop in let a = c.before.before.args in
-    sym (l.invariant.1 ∙ rw (drop_of_length-le a.deps.now c.loop-test.false))
+returns_2 : tie.Need-returns invariant_loop decreases_loop
+returns_2 c = let l = c.before.loop-i in let a = c.before.before.args in
+    sym (l.invariant.1 ∙ rw (drop_of_length-le a.deps.now c.loop-i-test.false))
 
 pub in_deps_spec : {M : Type 1} → statement M
 in_deps_spec =

@@ -37,25 +37,25 @@ known : (v : View) (deps : List ℕ) (j : ℕ) {r : Category} (g : Category)
 unfolding sees_view
 known v deps j g h t e = sym (rw (eq-eqb _ _ h) (sees_in v.epoch deps j g (rw e at t)))
 
-returns : tie.Need-returns
+returns : tie.Need-returns-then-v-ne1
 unfolding sees_view
-returns c = rw (ne_eqb _ _ c.before.if1.true)
+returns c = rw (ne_eqb _ _ c.before.if-v-ne1.true)
 
-returns_2 : tie.Need-returns-2
-returns_2 c = let k = c.before.before in let e = k.before in let a = e.before.before.before.args in
-    known a.v a.deps.now a.j Own e.if1.false k.category-of.ensures c.enum_told.given.1
+returns_2 : tie.Need-returns-in-Own
+returns_2 c = let k = c.before in let e = k.before in let a = e.before.before.before.args in
+    known a.v a.deps.now a.j Own e.if-v-ne1.false k.category_of-category.ensures c.in-Own.is
 
-returns_3 : tie.Need-returns-3
-returns_3 c = let k = c.before.before in let e = k.before in let a = e.before.before.before.args in
-    known a.v a.deps.now a.j Later e.if1.false k.category-of.ensures c.enum-told2.given.1
+returns_3 : tie.Need-returns-in-Later
+returns_3 c = let k = c.before in let e = k.before in let a = e.before.before.before.args in
+    known a.v a.deps.now a.j Later e.if-v-ne1.false k.category_of-category.ensures c.in-Later.is
 
-returns_4 : tie.Need-returns-4
-returns_4 c = let k = c.before.before in let e = k.before in let a = e.before.before.before.args in
-    known a.v a.deps.now a.j Pending e.if1.false k.category-of.ensures c.enum-told3.given.1
+returns_4 : tie.Need-returns-in-Pending
+returns_4 c = let k = c.before in let e = k.before in let a = e.before.before.before.args in
+    known a.v a.deps.now a.j Pending e.if-v-ne1.false k.category_of-category.ensures c.in-Pending.is
 
-returns_5 : tie.Need-returns-5
-returns_5 c = let k = c.before.before in let e = k.before in let a = e.before.before.before.args in
-    known a.v a.deps.now a.j Finished e.if1.false k.category-of.ensures c.enum-told4.given.1
+returns_5 : tie.Need-returns-in-Finished
+returns_5 c = let k = c.before in let e = k.before in let a = e.before.before.before.args in
+    known a.v a.deps.now a.j Finished e.if-v-ne1.false k.category_of-category.ensures c.in-Finished.is
 
 pub sees_spec : {M : Type 1} → statement M
 sees_spec =

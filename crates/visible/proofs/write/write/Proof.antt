@@ -19,21 +19,21 @@ use Rattle.visible.proofs.write.write.Tie as tie
 pack_requires : tie.Need-pack-requires
 unfolding bytes_for
 pack_requires c κs = let k = c.before.before.before.before in let s = k.before.before.before.before.before in
-    let e = c.before.bytes-for.ensures in
-    (omega (arith, e, s.requires.1, k.show-front.auto.1.1.1.1.1.1.0), rw e s.requires.3)
+    let e = c.before.bytes_for.ensures in
+    (omega (arith, e, s.requires.1, k.show_front-ones.auto.shown), rw e s.requires.3)
 
 returns : tie.Need-returns
 returns c = let b = c.before.before.before.before in let r = b.before.before.before in
     let f = r.before.before in let s = f.before.before.before in let a = s.args in
     let es = take a.n a.t.at in let sees = sees_view a.v a.deps.now in
-    let same : flags_under a.v a.deps.now f.find-top.result es ≡ view_flags a.v a.deps.now es =
-    rw f.find-top.ensures (sym (flags_of-top sees sees es)) in
+    let same : flags_under a.v a.deps.now f.find_top-top.result es ≡ view_flags a.v a.deps.now es =
+    rw f.find_top-top.ensures (sym (flags_of-top sees sees es)) in
     let all = length-flags_of sees sees a.rows es s.requires.2 in (
-      rw (r.show-front.ensures.0, same),
+      rw (r.show_front-ones.ensures.0, same),
       rw (
         c.before.before.pack.ensures,
-        b.bytes-for.ensures,
-        r.show-front.ensures.1,
+        b.bytes_for.ensures,
+        r.show_front-ones.ensures.1,
         same,
         drop_false a.rows rows_max,
       )
