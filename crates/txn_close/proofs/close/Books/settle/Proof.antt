@@ -49,8 +49,8 @@ returns_2 c =
     let k = c.before in let w = k.before in let r = c.before.before.before.before.before.before in let s = r.before in
     let a = s.args in let T = s.requires in
     let e = cut-records T 0 r.reach-reached.result.count k.cut_writers-ts.ensures.0 k.cut_writers-ts.ensures.1 in
-    let t = c.before.before.before.cut_words.ensures ∙ cut-table T 0 r.reach-reached.result.count in let l = reached r in
-    let n = ap (λ (x : Reached). x.count) l in
+    let t = c.before.before.before.cut_words.ensures ∙ cut-table T 0 r.reach-reached.result.count in
+    let l = reached r in let n = ap (λ (x : Reached). x.count) l in
     rw (← n) (
       (λ i. record {
         books = record { clock = with_lce (l i).lce a.self.clock; writers = e i };
