@@ -1,5 +1,6 @@
 // What every call on one partition asks first: 5 and 1, in 01's order ("Refusals that come from the state").
 #![tactic(auto)]
+
 ghost use Rattle.std.specs.Prelude.{◌≡◌};
 ghost use Rattle.admit.specs.Admit.{admitted};
 

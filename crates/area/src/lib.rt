@@ -1,6 +1,7 @@
 // Areas (01 "Lots"): where the rows and the entries of each of the nine stand among those of all, and one area's
 // entries read out of those lent.
 #![tactic(auto)]
+
 ghost use Rattle.std.specs.Prelude.{◌≡◌};
 ghost use Rattle.rules.specs.Limits.{rows_max, entries_max};
 ghost use Rattle.area.specs.Area.{base_of, place_at};

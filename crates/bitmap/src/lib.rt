@@ -1,5 +1,6 @@
 // How long a bitmap is. 01 "Who sees a row", last paragraph.
 #![tactic(auto)]
+
 ghost use Rattle.std.specs.Prelude.{◌≡◌};
 ghost use Rattle.rules.specs.Bitmap.{bytes_for};
 

@@ -1,6 +1,7 @@
 // A checkpoint (02: round) as bytes on lent slices. 02 (v): a header (02: table of contents), then the rows of each
 // partition (01: lot), all numbers low byte first.
 #![tactic(auto)]
+
 use rules::limits::PARTITIONS_MAX;
 
 mod number;

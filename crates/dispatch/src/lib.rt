@@ -1,6 +1,7 @@
 // Every call by one function: a command in, the public call that it names, the answer out. What it leaves is rules'
 // step.
 #![tactic(auto)]
+
 ghost use Rattle.std.specs.Prelude.{◌≡◌};
 ghost use Rattle.rules.specs.Step.{step, call_of};
 ghost use Rattle.store.specs.Kept.{store_of};

@@ -1,6 +1,7 @@
 // Epochs: the range that making new takes, one beside another, and the clock: its step, and whether it is sound.
 // 01 "The books"; 004 III-B "EC".
 #![tactic(auto)]
+
 pub mod tick;
 
 ghost use Rattle.std.specs.Prelude.{◌≡◌, suc, min, ◌-◌, eqb};

@@ -1,6 +1,7 @@
 // The store for callers in C and Rust: one function for each call, over what that call is lent and no more. Each is the
 // call of crate store or recovery by that name, and then its answer in words (D43).
 #![tactic(auto)]
+
 ghost use Rattle.std.specs.Prelude.{◌≡◌};
 ghost use Rattle.rules.specs.Step.{step, append, clear, rollback, create, scan, purge, save, recover};
 ghost use Rattle.rules.specs.Step.{begin, commit, begin_ro, end_ro, advance_lse};

@@ -16,7 +16,6 @@ use Rattle.lists.proofs.Laws.All.{get_d-All}
 use Rattle.lists.proofs.Laws.Bools.{split-eq, or_right}
 use Rattle.rules.specs.Limits.{last_epoch, partitions_max, rows_max}
 use Rattle.rules.specs.Sees.{up_to}
-use Rattle.rules.specs.Hides.{shown}
 use Rattle.rules.specs.Checkpoint.{Checkpoint, sum_of, header_ok}
 use Rattle.rules.specs.Store.{Store, manager_of, partition_at, spans_at}
 use Rattle.rules.specs.Recovery.{shown_at, checkpoint_at}

@@ -1,6 +1,7 @@
 // Entries as they are lent: a slice of small structs. This is the one file that knows how entries lie in memory.
 // 01 "Where to use each form": entries are a lent slice of small structs, with thin functions that append and read.
 #![tactic(auto)]
+
 ghost use Rattle.std.specs.Prelude.{◌≡◌, length, set, get_or};
 ghost use Rattle.lent.specs.Entries.{none, moved_end, filled0};
 

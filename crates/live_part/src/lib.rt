@@ -1,5 +1,6 @@
 // The rows in force after a purge: a part of one of two lent areas. 01 "Lots", Purge.
 #![tactic(auto)]
+
 ghost use Rattle.std.specs.Prelude.{◌≡◌, take};
 ghost use Rattle.rules.specs.Answers.{live_part};
 

@@ -1,6 +1,7 @@
 // Partitions (01: lots) over tables kept by value: append and clear. 01 "Lots"; 004 III-C 1, 2.
 // What a call writes into the lent areas is one entry and a batch of rows; a plan says which and where.
 #![tactic(auto)]
+
 use rules::Entry;
 
 pub mod append;

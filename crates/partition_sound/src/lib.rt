@@ -1,5 +1,6 @@
 // The part of 01's *sound* that is about lots. 01 "Refusals that come from the state", last paragraph.
 #![tactic(auto)]
+
 ghost use Rattle.std.specs.Prelude.{◌≡◌, ◌&&◌, leb};
 ghost use Rattle.rules.specs.Limits.{rows_max, entries_max};
 ghost use Rattle.partition_sound.specs.Sound.{epochs_of, epochs_with};

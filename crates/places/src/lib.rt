@@ -1,5 +1,6 @@
 // How many places of an array are in use. Laws of a loop over them: lists' proofs/Laws/Places.antt.
 #![tactic(auto)]
+
 ghost use Rattle.std.specs.Prelude.{◌≡◌, min};
 
 // A count beyond the places says that all are in use.

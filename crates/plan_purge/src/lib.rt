@@ -1,5 +1,6 @@
 // Purge (01 "Lots"), decided by value: what is refused or skipped, and what a rewrite puts into the spare area.
 #![tactic(auto)]
+
 ghost use Rattle.std.specs.Prelude.{◌≡◌};
 ghost use Rattle.rules.specs.Limits.{entries_max};
 ghost use Rattle.lent.specs.Shapes.{saved};

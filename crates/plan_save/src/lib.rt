@@ -1,5 +1,6 @@
 // Saving a checkpoint (02: round), decided by value: what is refused, and the rows that are written. 02 (v).
 #![tactic(auto)]
+
 ghost use Rattle.std.specs.Prelude.{◌≡◌, ◌*◌, ◌≤◌, length};
 ghost use Rattle.rules.specs.Limits.{partitions_max};
 ghost use Rattle.rules.specs.Calls.{within};

@@ -1,5 +1,6 @@
 // Scans (01 "Who sees a row"), decided by value: what is refused, and the bytes that a call writes.
 #![tactic(auto)]
+
 ghost use Rattle.std.specs.Prelude.{◌≡◌};
 ghost use Rattle.plan_scan.specs.Scan.{refused_look, look_at, rw_look, ro_look, copied};
 

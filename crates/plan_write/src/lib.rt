@@ -1,5 +1,6 @@
 // Append and clear (01 "Lots"), decided by value: what is refused, and the entry and the rows that a call writes.
 #![tactic(auto)]
+
 ghost use Rattle.std.specs.Prelude.{◌≡◌};
 ghost use Rattle.partition.specs.Rows.{put_rows};
 ghost use Rattle.plan_write.specs.Write.{refused_write, planned_write, append_at, append_write, clear_at, clear_write};

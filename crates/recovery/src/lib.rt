@@ -1,5 +1,6 @@
 // The store to and from a file of checkpoints (02: rounds). 02 (v).
 #![tactic(auto)]
+
 ghost use Rattle.rules.specs.Step.{step, save, recover};
 ghost use Rattle.store.specs.Kept.{store_of, Left, Showed};
 

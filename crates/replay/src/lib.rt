@@ -1,5 +1,6 @@
 // A session on slices: its start, and a buffer of lines answered. 01 "A session".
 #![tactic(auto)]
+
 mod lines;
 mod opening;
 

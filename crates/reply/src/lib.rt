@@ -1,5 +1,6 @@
 // What an answer says in 01's numbers. The one table: reply_of, rules/specs/Answers.antt.
 #![tactic(auto)]
+
 ghost use Rattle.std.specs.Prelude.{◌≡◌};
 ghost use Rattle.rules.specs.Answers.{refusal_number, reply_of};
 ghost use Rattle.reply.specs.Reply.{words_of, accepted};

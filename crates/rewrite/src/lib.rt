@@ -1,5 +1,6 @@
 // Roll back and purge over the entries of one partition. 01 "Lots", Roll back, Purge; 004 III-C 4, 5.
 #![tactic(auto)]
+
 use area::Area;
 
 pub mod copying;

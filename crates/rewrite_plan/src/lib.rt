@@ -1,6 +1,7 @@
 // What a roll back and a purge do with each entry of a partition, and whether they have anything to do. 01 "Lots",
 // Roll back, Purge; 004 III-C 4, 5.
 #![tactic(auto)]
+
 ghost use Rattle.std.specs.Prelude.{◌≡◌, not, ◌&&◌, leb, eqb};
 ghost use Rattle.rules.specs.Rewrite.{has_epoch, skips as skipping};
 ghost use Rattle.rules.specs.Top.{covers};

@@ -2,6 +2,7 @@
 // a word out of place is refused as unsound (01 "Refusals", 5) and never loaded as a bool or an enum. Fields lie in
 // the order written, each 8 bytes wide and without padding, for callers in C and Rust.
 #![tactic(auto)]
+
 pub mod limits;
 
 use limits::{DEPS_ALL, PARTITIONS_MAX, READERS_MAX, WRITERS_MAX};

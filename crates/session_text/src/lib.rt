@@ -1,5 +1,6 @@
 // The lines of a session: a line as a call, and an answer as a line. 01 "A session".
 #![tactic(auto)]
+
 use crate::call::{from_of, parse_letter, parse_numbers};
 use rules::Command;
 

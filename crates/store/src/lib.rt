@@ -2,6 +2,7 @@
 // the areas of rows and of entries are lent. Each call asks whether the lots are sound, loads what it needs of one lot,
 // decides by value, then writes; what it answers and leaves is rules' step.
 #![tactic(auto)]
+
 ghost use Rattle.std.specs.Prelude.{◌≡◌};
 ghost use Rattle.rules.specs.Store.{created_state};
 ghost use Rattle.rules.specs.Step.{step, manage, append, clear, rollback, create, scan, purge};

@@ -1,6 +1,7 @@
 // What the rows of a partition (01: lot) weigh, of some epochs, and beside them of some later ones, which land (02
 // (iii)): the greatest clearing among either is found first, then the rows that are shown by it are weighed, each once.
 #![tactic(auto)]
+
 ghost use Rattle.std.specs.Prelude.{◌≡◌};
 ghost use Rattle.totals.specs.Reach.{cut_of, cuts_of};
 ghost use Rattle.totals.specs.Places.{from_of, to_of};

@@ -2,6 +2,7 @@
 // Each call is answered by 01's refusals in 01's order, and a refusal hands the books back as they were. rest says
 // whether the rest of the store is sound; the manager's own soundness is tested by parts_sound.
 #![tactic(auto)]
+
 ghost use Rattle.std.specs.Prelude.{◌&&◌, ◌≡◌, eqb, length};
 ghost use Rattle.rules.specs.Limits.{deps_all};
 ghost use Rattle.rules.specs.Manager.{manager_with};

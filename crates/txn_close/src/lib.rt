@@ -1,6 +1,7 @@
 // Commit and roll back, on the books by value, and where LCE then lies. 01 "The books", Commit, roll back; 02 (i);
 // 004 III-B "LCE".
 #![tactic(auto)]
+
 mod close;
 
 ghost use Rattle.std.specs.Prelude.{◌&&◌, not, cond, ◌≡◌, [], map, eqb, take};

@@ -1,5 +1,6 @@
 // Where a transaction stands in the manager. 01 "Refusals that come from the input", 2.
 #![tactic(auto)]
+
 ghost use Rattle.std.specs.Prelude.{◌≡◌, ◌&&◌, eqb};
 ghost use Rattle.rules.specs.Manager.{no_rw, no_ro};
 ghost use Rattle.txn_find.specs.Find.{writer_at, reader_at, row_at};

@@ -1,5 +1,6 @@
 // Opening and closing a page, on the books by value. 01 "The books", Open a page; 004 III-A, RO transactions.
 #![tactic(auto)]
+
 mod read_only;
 
 ghost use Rattle.std.specs.Prelude.{◌&&◌, ◌≡◌, ◌≤◌, take};

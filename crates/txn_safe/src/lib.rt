@@ -1,5 +1,6 @@
 // Moving LSE, and how far it may move, on the books by value. 01 "The books", Move LSE; 004 III-C 5.
 #![tactic(auto)]
+
 ghost use Rattle.std.specs.Prelude.{◌&&◌, ◌||◌, ◌≡◌, min, ◌-◌, ltb, take};
 ghost use mathlib.Core.List.{map, foldr};
 ghost use Rattle.lists.specs.Lists.{any_of, gather};

@@ -1,5 +1,6 @@
 // Whether the manager is sound. 01 "Refusals that come from the state", last paragraph.
 #![tactic(auto)]
+
 ghost use Rattle.std.specs.Prelude.{◌&&◌, ◌||◌, ◌≡◌, eqb, ltb, length, drop};
 ghost use Rattle.rules.specs.Limits.{deps_all};
 ghost use Rattle.rules.specs.Manager.{manager_with};

@@ -1,5 +1,6 @@
 // Begin, on the books by value. 01 "The books", Begin; 004 III-B "EC".
 #![tactic(auto)]
+
 mod start;
 
 ghost use Rattle.std.specs.Prelude.{◌&&◌, ◌≡◌};

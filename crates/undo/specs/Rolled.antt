@@ -2,7 +2,7 @@
 -- In order: a partition's area and what is kept of it, its entries and its place, its rows.
 -- Laws: proofs/Laws/Rolled.antt.
 -- Assumes nothing.
-use Rattle.std.specs.Prelude.{Bool, cond, List, ℕ, zero, suc, get_or}
+use Rattle.std.specs.Prelude.{Bool, cond, List, ℕ, get_or}
 use Rattle.lists.specs.Lists.{over}
 use Rattle.rules.specs.Limits.{rows_max, entries_max}
 use Rattle.rules.specs.Rewrite.{has_epoch}

@@ -1,6 +1,7 @@
 // Roll back over all partitions (01: lots), in rising order. 01 "Lots", Roll back. A partition with an entry of the
 // transaction (01: load) is rewritten into the spare area, and its old area is the spare of the next one.
 #![tactic(auto)]
+
 use area::Area;
 use rewrite_plan::Plan;
 use rules::Partitions;

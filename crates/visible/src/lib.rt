@@ -1,5 +1,6 @@
 // Who sees a row, and what a scan writes. 01 "Who sees a row"; 004 III-C 3.
 #![tactic(auto)]
+
 use crate::ends::ends_ok;
 use crate::write::write;
 use area::Area;

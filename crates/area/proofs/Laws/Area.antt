@@ -1,11 +1,11 @@
 -- An area of entries copied out of all entries. Definitions: specs/Area.antt.
 -- In order: how many places an area has; the entries in use; an area's place among the nine.
 -- Assumes nothing.
-use mathlib.Core.Path.{◌≡◌, sym, ◌∙◌}
+use mathlib.Core.Path.{◌≡◌}
 use mathlib.Core.List.{List}
 use Prim.Native.Nat.{ℕ, ◌+◌, ◌*◌, ◌≤◌, min}
 use native.Mathlib.Omega.{arith}
-use lib.ListN.{length, take, length-map}
+use lib.ListN.{length, take}
 use lib.Dec.{ltb}
 use borrow.Author.Tests.{ltb-true}
 use mir.Val.{Val}
@@ -14,7 +14,6 @@ use denote.Struct.Declared.{row}
 use Rattle.lists.proofs.Laws.Bools.{split}
 use Rattle.lists.proofs.Laws.Places.{take-used}
 use Rattle.rules.specs.Limits.{areas_max, entries_max}
-use Rattle.rules.specs.contracts.Entry as entry-type
 use Rattle.area.specs.Area.{base_of, entries_in}
 use Rattle.area.specs.declared.Area.{Area}
 use Rattle.area.specs.contracts.Area as area-type

@@ -1,7 +1,5 @@
 -- `area::last_entry` meets its contract.
 -- Assumes nothing.
-use Rattle.std.proofs.Common.{◌∙◌, ap}
-use Rattle.lent.specs.Entries.{none}
 use Rattle.area.specs.Load.{last_entry}
 use Rattle.area.proofs.last_entry.Goals as goal
 

@@ -168,7 +168,7 @@ module _ {st : Store} {g : Ledger} (F : Follows st g) where
     places = length-set g.lines p ls ∙ F.places;
     partition = λ q k.
         let M : Manager → Type 0 = λ m. PartitionFollows m.clock.lse m.clock.ec (alive g) (spans_at q st')
-            (lines_at q (with_lines (set g.lines p ls) g)) in
+        (lines_at q (with_lines (set g.lines p ls) g)) in
         subst M (sym C.manager) (split-eq q p
         (λ e. let n = F.places in rw (e, C.there, get_or-set_same g.lines p ls [] (omega arith)) P)
         (λ ne. rw (C.elsewhere q k ne, get_or-set_other g.lines p q ls [] ne) (F.partition q k)));

@@ -1,14 +1,13 @@
 -- How many places the partitions have, from what a function is told of its parameters.
 -- Assumes nothing.
-use mathlib.Core.Path.{◌≡◌, sym, ◌∙◌}
+use mathlib.Core.Path.{◌≡◌}
 use mathlib.Core.List.{List}
-use lib.ListN.{length, length-map}
+use lib.ListN.{length}
 use mir.Val.{Val}
 use denote.Laws.{Is}
 use denote.Struct.Declared.{row}
 use Rattle.rules.specs.Limits.{partitions_max}
 use Rattle.rules.specs.declared.Partitions.{Partitions}
-use Rattle.rules.specs.contracts.Partition as partition-type
 use Rattle.rules.specs.contracts.Partitions as partitions-type
 
 pub partitions_8 : (x : Partitions) (vs : List Val) → Is (row partitions-type.the_type) x vs

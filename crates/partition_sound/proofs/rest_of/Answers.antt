@@ -1,6 +1,6 @@
 -- `partition_sound::rest_of` meets its contract: a turn finds what the pass over partition p finds, and judges it.
 -- Assumes nothing.
-use Rattle.std.proofs.Common.{◌≡◌, ◌∙◌, refl, ap, Bool, add-one, arith}
+use Rattle.std.proofs.Common.{◌≡◌, refl, ap, Bool, add-one, arith}
 use Rattle.rules.specs.Limits.{partitions_max}
 use Rattle.partition.proofs.Laws.Places.{partitions_8}
 use Rattle.partition_sound.specs.Rest.{found_of, landed_below}

@@ -13,7 +13,6 @@ use Rattle.plan_purge.proofs.purge_core.Tie as tie
 
 -- where the test of soundness was made, and where the function began
 
-
 abbrev tested : tie.After-admit-admitted → tie.After-parts_sound-sound
 tested a = a.before.before
 

@@ -1,9 +1,8 @@
 -- `plan_purge::put_purge` meets its contract: a turn puts entry i of the new area at its place, or past the end.
 -- Assumes nothing.
-use Rattle.std.proofs.Common.{◌≡◌, ◌∙◌, refl, ap, add-one, arith}
+use Rattle.std.proofs.Common.{◌≡◌, ◌∙◌, refl, add-one, arith}
 use Rattle.rules.specs.Limits.{entries_max}
 use Rattle.lent.specs.Shapes.{saved}
-use Rattle.plan_purge.specs.Purge.{place_of, new_of}
 use Rattle.plan_purge.proofs.put_purge.Goals as goal
 
 pub loop-i-init : goal.loop-i-init

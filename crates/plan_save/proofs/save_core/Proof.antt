@@ -25,7 +25,6 @@ sound c = let s = start c in
 
 -- where the store is sound, and e in range
 
-
 ok : (c : tie.Else-not-sound) → let s = start c.before in s.args.found.ok && manager_ok (manager_in s.args.state) ≡ true
 ok c = said-yes (sound c.before) c.if-not-sound.false-raw
 

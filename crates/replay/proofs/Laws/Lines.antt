@@ -4,18 +4,18 @@
 -- Assumes nothing.
 use mathlib.Core.Path.{◌≡◌, refl, sym, ◌∙◌, ap}
 use mathlib.Core.Bool.{cond}
-use mathlib.Core.List.{List, [], ◌∷◌, ◌++◌, append-nil}
+use mathlib.Core.List.{List, [], ◌∷◌, ◌++◌}
 use Prim.Native.Nat.{ℕ, suc, ◌+◌, ◌-◌, ◌≤◌, ◌<◌}
 use native.Mathlib.Omega.{arith}
 use lib.Dec.{leb, eqb}
 use lib.ListN.{length, take, drop, length-append, length-drop, drop_of_length-le}
-use lib.Seq.{drop-drop, take_all, length-take-le}
+use lib.Seq.{drop-drop, length-take-le}
 use borrow.Author.Tests.{le-leb, lt-leb, eqb-true, eqb-false, leb-true, leb-false}
 use Rattle.lists.specs.Lists.{over}
 use Rattle.lists.proofs.Laws.Bools.{split}
 use Rattle.lists.proofs.Laws.Parts.{length_over}
 use Rattle.rules.specs.Store.{Store}
-use Rattle.session_text.specs.Lines.{size_in, before_end, line_end}
+use Rattle.session_text.specs.Lines.{before_end, line_end}
 use Rattle.session_text.proofs.Laws.Lines.{end-past, end-within, end_none, end-here, end_later}
 use Rattle.lists.proofs.Laws.Over.{over-nil, over-append, over-tail}
 use Rattle.session_line.specs.Session.{after_line, answer_to, after_lines, answers_to}

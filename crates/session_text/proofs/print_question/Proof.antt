@@ -1,7 +1,6 @@
 -- `session_text::print_question` meets its contract.
 -- Assumes nothing.
 use mathlib.Core.Path.{refl, sym, ◌∙◌}
-use Prim.Native.Nat.{◌-◌}
 use mathlib.Core.List.{[], ◌∷◌}
 use lib.ListN.{set, length-set}
 use Rattle.session_text.specs.Print.{question}

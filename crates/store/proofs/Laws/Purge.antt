@@ -49,7 +49,6 @@ use Rattle.plan_purge.specs.Purge.{unwritten_purge, plan_at, moved_purge, purge_
 use Rattle.plan_purge.specs.declared.Purge.{Purge}
 use Rattle.store.specs.Kept.{store_of, Left}
 use Rattle.store.specs.Done.{done_purge}
-use Rattle.rules.specs.declared.Kept.{Kept}
 use Rattle.store.proofs.Laws.Kept.{rest_in, sound-is}
 use Rattle.store.proofs.Laws.Scan.{entries-facts, words}
 

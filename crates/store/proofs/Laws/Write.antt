@@ -6,7 +6,7 @@ use mathlib.Core.Bool.{false}
 use mathlib.Core.List.{List, [], ◌∷◌}
 use Prim.Native.Nat.{ℕ, suc, ◌+◌, ◌-◌, ◌<◌}
 use native.Mathlib.Omega.{arith}
-use lib.ListN.{length, set, length-append, length-set, length-map}
+use lib.ListN.{length, set, length-append, length-set}
 use lib.Seq.{set_out}
 use lib.Dec.{ltb, leb, eqb}
 use mir.Val.{Val}

@@ -1,8 +1,8 @@
 -- How many places each array of the manager has, from what a function is told of its parameters: Sized.
 -- Assumes nothing.
-use mathlib.Core.Path.{◌≡◌, sym, ◌∙◌}
+use mathlib.Core.Path.{◌≡◌}
 use mathlib.Core.List.{List}
-use lib.ListN.{length, length-map}
+use lib.ListN.{length}
 use mir.Val.{Val}
 use denote.Laws.{Is}
 use denote.Struct.Declared.{row}
@@ -11,9 +11,7 @@ use Rattle.rules.specs.declared.RwTxns.{RwTxns}
 use Rattle.rules.specs.declared.RoTxns.{RoTxns}
 use Rattle.rules.specs.declared.State.{State}
 use Rattle.rules.specs.Manager.{Manager, manager_in}
-use Rattle.rules.specs.contracts.RwTxn as rw-type
 use Rattle.rules.specs.contracts.RwTxns as rws-type
-use Rattle.rules.specs.contracts.RoTxn as ro-type
 use Rattle.rules.specs.contracts.RoTxns as ros-type
 use Rattle.rules.specs.contracts.State as state-type
 

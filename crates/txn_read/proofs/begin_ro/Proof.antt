@@ -1,7 +1,7 @@
 -- Soundness, the range of the snapshot, the tickets left, the places left; then the manager with one reader
 -- more.
 -- Assumes nothing.
-use mathlib.Core.Path.{◌≡◌, ◌∙◌}
+use mathlib.Core.Path.{◌≡◌}
 use mathlib.Core.Bool.{◌&&◌}
 use native.Mathlib.Omega.{arith}
 use borrow.Author.Rules.{rules}

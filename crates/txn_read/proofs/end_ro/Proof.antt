@@ -1,6 +1,6 @@
 -- Soundness; then the transaction is taken out, if it is there.
 -- Assumes nothing.
-use mathlib.Core.Path.{◌≡◌, ◌∙◌}
+use mathlib.Core.Path.{◌≡◌}
 use mathlib.Core.Bool.{◌&&◌}
 use borrow.Author.Rules.{rules}
 use Rattle.lists.proofs.Laws.Bools.{and_right}

@@ -1,8 +1,7 @@
 -- `partition_sound::pass::pass` meets its contract: a turn takes the entry at i.
 -- Assumes nothing.
-use Rattle.std.proofs.Common.{◌≡◌, ◌+◌, ◌-◌, ◌∙◌, refl, ap, suc, arith}
+use Rattle.std.proofs.Common.{◌≡◌, ◌+◌, ◌-◌, refl, suc, arith}
 use Rattle.lent.specs.Shapes.{turned}
-use Rattle.partition_sound.specs.Pass.{step_of}
 use Rattle.partition_sound.proofs.pass.pass.Goals as goal
 
 pub loop-i-init : goal.loop-i-init

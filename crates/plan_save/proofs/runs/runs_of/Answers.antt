@@ -2,8 +2,8 @@
 -- is gone over, and its greatest clearing; one of the inner takes the entry at i to the pending run, and stores the word
 -- of that at its place.
 -- Assumes nothing.
-use Rattle.std.proofs.Common.{◌≡◌, ◌+◌, ◌-◌, ◌<◌, refl, ap, suc, add-one, arith, ltb-true, List}
-use Rattle.std.specs.Prelude.{ltb, ℕ}
+use Rattle.std.proofs.Common.{◌≡◌, ◌+◌, ◌-◌, ◌<◌, refl, ap, suc, add-one, arith, ltb-true}
+use Rattle.std.specs.Prelude.{ltb}
 use Rattle.lists.proofs.Laws.Bools.{split}
 use Rattle.lent.specs.Shapes.{turned}
 use Rattle.plan_save.specs.declared.runs.Pending.{Pending}

@@ -1,9 +1,8 @@
 -- `recovery::restore::put_entries` meets its contract: a turn puts entry i of those restored at its place, or past the end.
 -- Assumes nothing.
-use Rattle.std.proofs.Common.{◌≡◌, ◌∙◌, refl, ap, add-one, arith}
+use Rattle.std.proofs.Common.{◌≡◌, ◌∙◌, refl, add-one, arith}
 use Rattle.rules.specs.Limits.{partitions_max}
 use Rattle.lent.specs.Shapes.{saved}
-use Rattle.recovery.specs.Restore.{place_of, new_of}
 use Rattle.recovery.proofs.restore.put_entries.Goals as goal
 
 pub loop-i-init : goal.loop-i-init

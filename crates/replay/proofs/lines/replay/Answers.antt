@@ -1,8 +1,7 @@
 -- `replay::lines::replay` meets its contract: a turn answers the line at the cursor (Laws/Turn.antt, inv-next), and where
 -- the cursor finds none all is answered that there is room for.
 -- Assumes nothing.
-use Rattle.std.proofs.Common.{◌≡◌, ◌∙◌, sym, ap, ◌+◌, ◌-◌, ◌<◌, length, zero-add, List, drop}
-use Rattle.std.specs.Prelude.{ℕ}
+use Rattle.std.proofs.Common.{◌∙◌, sym, ◌-◌, ◌<◌, length}
 use Rattle.replay.proofs.Laws.Turn.{Loop, Inv, Ended, inv-start, inv-next, inv-end}
 use Rattle.replay.proofs.lines.replay.Goals as goal
 use Rattle.replay.proofs.lines.replay.Goals.{After-state_of-books, After-replayed_of}
@@ -50,7 +49,6 @@ loop-numbers-smaller c = (turn (goal.at.loop-numbers-smaller c).After-state_of-b
 
 pub loop-numbers-preserved : goal.loop-numbers-preserved
 loop-numbers-preserved c = (turn (goal.at.loop-numbers-preserved c).After-state_of-books).0
-
 
 -- where the cursor finds no line
 module _ (c : After-replayed_of) where

@@ -2,7 +2,7 @@
 -- input.
 -- Assumes nothing.
 use Rattle.std.proofs.Common.{◌-◌, length}
-use Rattle.replay.proofs.Laws.Turn.{Loop, Inv}
+use Rattle.replay.proofs.Laws.Turn.{Inv}
 use Rattle.replay.proofs.lines.replay.Given as goal
 
 abbrev pub invariant-loop-numbers : goal.invariant-loop-numbers

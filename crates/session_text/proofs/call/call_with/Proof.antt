@@ -1,7 +1,6 @@
 -- `session_text::call::call_with` meets its contract.
 -- Assumes nothing.
 use mathlib.Core.Path.{◌∙◌}
-use Prim.Native.Nat.{◌-◌}
 use native.Mathlib.Omega.{arith}
 use Rattle.session_text.proofs.Laws.Calls.{call-one, call-more}
 use borrow.Author.Rules.{rules}

@@ -6,7 +6,6 @@ use Prim.Native.Nat.{◌+◌, ◌-◌, ◌≤◌, ◌^◌}
 use native.Mathlib.Omega.{arith}
 use native.Mathlib.Nat.{pow-le-pow_right}
 use Rattle.session_text.proofs.Laws.Print.{length-between, power-next}
-use borrow.Author.Rules.{rules}
 use Rattle.session_text.proofs.decimal.digits.Statement.{statement}
 use Rattle.session_text.proofs.decimal.digits.Tie as tie
 

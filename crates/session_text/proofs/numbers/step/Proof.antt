@@ -1,6 +1,5 @@
 -- `session_text::numbers::step` meets its contract.
 -- Assumes nothing.
-use Prim.Native.Nat.{◌-◌}
 use borrow.Author.Rules.{rules}
 use borrow.Author.Rules.{rules}
 use Rattle.session_text.proofs.numbers.step.Statement.{statement}

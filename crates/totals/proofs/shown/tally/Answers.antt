@@ -1,8 +1,7 @@
 -- `totals::shown::tally` meets its contract: a turn takes the entry at i.
 -- Assumes nothing.
-use Rattle.std.proofs.Common.{◌≡◌, ◌+◌, ◌-◌, ◌∙◌, refl, ap, suc, arith}
+use Rattle.std.proofs.Common.{◌≡◌, ◌+◌, ◌-◌, refl, suc, arith}
 use Rattle.lent.specs.Shapes.{turned}
-use Rattle.totals.specs.Weighed.{tally_turn}
 use Rattle.totals.proofs.shown.tally.Goals as goal
 
 pub loop-i-init : goal.loop-i-init

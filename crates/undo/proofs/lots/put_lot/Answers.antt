@@ -1,9 +1,8 @@
 -- `undo::lots::put_lot` meets its contract: a turn puts entry i of the new area at its place, or past the end.
 -- Assumes nothing.
-use Rattle.std.proofs.Common.{◌≡◌, ◌∙◌, refl, ap, add-one, arith}
+use Rattle.std.proofs.Common.{◌≡◌, ◌∙◌, refl, add-one, arith}
 use Rattle.rules.specs.Limits.{entries_max}
 use Rattle.lent.specs.Shapes.{saved}
-use Rattle.undo.specs.Lots.{place_of, new_of}
 use Rattle.undo.proofs.lots.put_lot.Goals as goal
 
 pub loop-i-init : goal.loop-i-init
