@@ -2,6 +2,7 @@
 // small letters that do what no session can. model/src/bin/edges.rs says what each letter does, and prints the same
 // lines.
 #![tactic(auto)]
+
 use lent::Table;
 use libc::{STDIN_FILENO, STDOUT_FILENO};
 use places::in_use;

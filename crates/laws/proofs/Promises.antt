@@ -24,7 +24,8 @@ use Rattle.rules.specs.WellFormed.{sound}
 use Rattle.rules.specs.Calls.{close_answer, scan_answer}
 use Rattle.rules.specs.Step.{Call, clear, rollback, commit, step, run}
 use Rattle.rules.specs.Ledger.{Line, row, delete, Ledger, heard, lines_at, concealed, shows_in, shows}
-use Rattle.rules.specs.Claim.{event_of, history, ledger_of, is_open_in, shown_by, words_scanned, Start, at_epoch, of_file}
+use Rattle.rules.specs.Claim.{event_of, history, ledger_of, is_open_in, shown_by, words_scanned, Start, at_epoch}
+use Rattle.rules.specs.Claim.{of_file}
 use Rattle.rules.specs.Claim.{first_ledger}
 use Rattle.rules.specs.Histories.{Made, store_after, ledger_after, HistorySound, HistoryLce, oldest, ledger_next}
 use Rattle.rules.specs.Histories.{StartClosesAll, NamesOldest, HistoryNamesOldest, HistoryNamesHolder}

@@ -15,7 +15,8 @@ use Rattle.rules.specs.Sees.{up_to}
 use Rattle.rules.specs.Hides.{hidden, shown, shown_in}
 use Rattle.rules.specs.Weight.{weight, weight_by, total}
 use Rattle.rules.specs.Checkpoint.{Checkpoint, no_checkpoint, encoded, checkpoint_of, saved_in}
-use Rattle.rules.specs.Store.{Store, manager_of, partition_at, spans_at, total_at, with_totals, refreshed, created_store}
+use Rattle.rules.specs.Store.{Store, manager_of, partition_at, spans_at, total_at, with_totals, refreshed}
+use Rattle.rules.specs.Store.{created_store}
 use Rattle.rules.specs.Store.{laid_in_place, totals_of}
 use Rattle.rules.specs.Recovery.{checkpoint_at, recovered_spans, recovered_below, recovered_store, recover_answer}
 use Rattle.rules.specs.WellFormed.{lengths_ok}

@@ -2,7 +2,8 @@
 -- In order: words in range, nothing written, one entry placed, append, clear, a plan carried out.
 -- Laws: proofs/Laws/Append.antt (a plan carried out leaves rules' laid_in_place), proofs/Laws/Plan.antt.
 -- Assumes nothing.
-use Rattle.std.specs.Prelude.{Bool, true, false, not, ◌&&◌, ◌||◌, cond, List, ℕ, ◌+◌, ◌-◌, ◌*◌, get_or, set, ltb, leb, eqb}
+use Rattle.std.specs.Prelude.{Bool, true, false, not, ◌&&◌, ◌||◌, cond, List, ℕ, ◌+◌, ◌-◌, ◌*◌, get_or, set, ltb, leb}
+use Rattle.std.specs.Prelude.{eqb}
 use Rattle.rules.specs.Limits.{areas_max, rows_max, entries_max}
 use Rattle.rules.specs.Store.{Store, partition_at, with_partitions_in}
 use Rattle.rules.specs.declared.Entry.{Entry}

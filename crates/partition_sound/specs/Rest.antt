@@ -3,7 +3,8 @@
 -- Laws: proofs/Laws/Rest.antt (they find rest_asked), proofs/Laws/Lands.antt (of a sound store the totals are those
 -- worked out afresh).
 -- Assumes nothing.
-use Rattle.std.specs.Prelude.{Bool, true, false, not, ◌&&◌, cond, List, ℕ, zero, suc, ◌-◌, get_or, set, replicate, ltb, leb, eqb}
+use Rattle.std.specs.Prelude.{Bool, true, false, not, ◌&&◌, cond, List, ℕ, zero, suc, ◌-◌, get_or, set, replicate}
+use Rattle.std.specs.Prelude.{ltb, leb, eqb}
 use Rattle.rules.specs.Limits.{partitions_max, rows_max, entries_max}
 use Rattle.rules.specs.WellFormed.{areas_ok}
 use Rattle.lent.specs.Shapes.{turned}

@@ -3,7 +3,8 @@
 -- what the test of the lots found; the words of one partition, of all; what a plan reads of them.
 -- Laws: proofs/Laws/Joined.antt, proofs/Laws/Laid.antt, proofs/Laws/Shown.antt.
 -- Assumes nothing.
-use Rattle.std.specs.Prelude.{Bool, false, ◌&&◌, cond, List, [], ◌∷◌, map, ℕ, zero, suc, ◌+◌, ◌-◌, ◌*◌, ◌/◌, ◌%◌, set, get_or, replicate, ltb, leb}
+use Rattle.std.specs.Prelude.{Bool, false, ◌&&◌, cond, List, [], ◌∷◌, map, ℕ, zero, suc, ◌+◌, ◌-◌, ◌*◌, ◌/◌, ◌%◌, set}
+use Rattle.std.specs.Prelude.{get_or, replicate, ltb, leb}
 use Rattle.lists.specs.Lists.{part}
 use Rattle.rules.specs.Limits.{partitions_max}
 use Rattle.rules.specs.Checkpoint.{sum_of}

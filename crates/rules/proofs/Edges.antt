@@ -65,7 +65,8 @@ gap =
       })
           st.state.totals;
       rows = st.rows;
-      entries = over 0 (record { epoch = 1; end = 2; mark = 0 } ∷ record { epoch = 2; end = 3; mark = 1 } ∷ []) st.entries;
+      entries = over 0 (record { epoch = 1; end = 2; mark = 0 } ∷ record { epoch = 2; end = 3; mark = 1 } ∷ [])
+          st.entries;
     }
 
 -- 02 (iii): 5 and 7 of load 1, which landed, 9 of load 2, which is open; a row of partition 1 that load 1 cleared
@@ -189,7 +190,8 @@ crowd (suc n) = writer (last_epoch - n) 0 [] ∷ crowd n
 
 crowded : ℕ → Store → Store
 crowded n st =
-    with_manager (with_writers (crowd n) (with_clock (with_ec (suc last_epoch) (manager_of st).clock) (manager_of st))) st
+    with_manager (with_writers (crowd n) (with_clock (with_ec (suc last_epoch) (manager_of st).clock)
+    (manager_of st))) st
 
 -- partition 0 has n entries, of transactions 2 and 1 in turn; laid at once, which a case computes faster than appends
 turns : ℕ → List Span

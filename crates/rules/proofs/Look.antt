@@ -107,7 +107,8 @@ unfolding made line lines bits looked last_epoch last_ticket created_manager beg
     apart partition_ok lengths_ok well_formed shown_in shown weight weight_by total total_at totals_of totals_ok
     sound create_answer begin_answer append_answer clear_answer close_answer
     begin_ro_answer end_ro_answer sees_of applies_of flags_at scan_answer advance_lse_answer purge_answer step run
-    words_at_ones bytes_of number_of numbers_in encoded rows_in header_ok last_from checkpoint_at save_answer recovered_below
+    words_at_ones bytes_of number_of numbers_in encoded rows_in header_ok last_from checkpoint_at save_answer
+    recovered_below
     recovered_store recover_answer saved_over
 observed c = looked c.look (run c.calls c.start)
 

@@ -117,5 +117,6 @@ none = replicate 7 []
 pub cuts_hold : cuts_to 81
     ≡ (((3 ∷ []) ∷ (20 ∷ []) ∷ [] ∷ [] ∷ [] ∷ [] ∷ (21 ∷ []) ∷ [] ∷ [] ∷ []) ∷ [])
     ++ (replicate 40 ((1 ∷ []) ∷ (10 ∷ 11 ∷ []) ∷ none) ++ replicate 40 ((0 ∷ []) ∷ [] ∷ none))
-unfolding agree alike cuts_to none file round rows contents last_epoch bytes_of number_of numbers_in rows_in header_ok last_from
+unfolding agree alike cuts_to none file round rows contents last_epoch bytes_of number_of numbers_in rows_in header_ok
+    last_from
 cuts_hold = agree-eq _ _ refl

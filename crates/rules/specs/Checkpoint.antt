@@ -3,7 +3,8 @@
 -- Found, checkpoint_in, saved_in.
 -- Laws: laws/proofs/Laws/Bytes.antt, laws/proofs/Laws/Checkpoint.antt.
 -- Assumes nothing.
-use Rattle.std.specs.Prelude.{Bool, true, false, not, ◌&&◌, ◌||◌, cond, List, [], ◌∷◌, ◌++◌, ℕ, zero, suc, ◌+◌, ◌*◌, ◌/◌, ◌%◌, length, take, drop, replicate, ltb, leb, eqb}
+use Rattle.std.specs.Prelude.{Bool, true, false, not, ◌&&◌, ◌||◌, cond, List, [], ◌∷◌, ◌++◌, ℕ, zero, suc, ◌+◌, ◌*◌}
+use Rattle.std.specs.Prelude.{◌/◌, ◌%◌, length, take, drop, replicate, ltb, leb, eqb}
 use Rattle.lists.specs.Lists.{gather, all_of}
 use Rattle.rules.specs.Limits.{last_epoch, rows_max, partitions_max}
 

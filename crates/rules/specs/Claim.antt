@@ -2,7 +2,8 @@
 -- 01 "The ledger of demand 3", first and last paragraphs; 02 (v). In order: event_of, history, words_at_ones,
 -- words_scanned, Agrees, Start, HistoryShows. What it comes to for readers: Promises.antt.
 -- Assumes nothing.
-use Rattle.std.specs.Prelude.{◌≡◌, ◌↔◌, Bool, true, cond, List, [], ◌∷◌, ℕ, suc, ◌/◌, ◌%◌, ◌^◌, ◌≤◌, ◌<◌, length, take, get_or, eqb}
+use Rattle.std.specs.Prelude.{◌≡◌, ◌↔◌, Bool, true, cond, List, [], ◌∷◌, ℕ, suc, ◌/◌, ◌%◌, ◌^◌, ◌≤◌, ◌<◌, length}
+use Rattle.std.specs.Prelude.{take, get_or, eqb}
 use Rattle.rules.specs.Limits.{partitions_max}
 use Rattle.rules.specs.Answers.{Reply, reply_of, first_value, second_value, accepted}
 use Rattle.rules.specs.Bitmap.{bytes_for}
@@ -71,7 +72,8 @@ words_scanned r p lent st =
 -- then with as many ones as the ledger shows rows, and the words at the ones those that the ledger shows
 pub record Agrees (st : Store) (g : Ledger) (r : Reader) (p : ℕ) (lent : List ℕ) : Type 0 where
   pub admits : (reply_of (step (scan r p lent) st).answer).number ≡ 0 ↔ is_open_in r g ≡ true
-  pub counts : is_open_in r g ≡ true → second_value (reply_of (step (scan r p lent) st).answer) ≡ length (shown_by r p g)
+  pub counts : is_open_in r g ≡ true → second_value (reply_of (step (scan r p lent) st).answer)
+      ≡ length (shown_by r p g)
   pub shows : is_open_in r g ≡ true → words_scanned r p lent st ≡ shown_by r p g
 
 -- what starts a list of calls: making new at an epoch, or recovery of a file (02 (v))

@@ -1,6 +1,7 @@
 -- Commit and roll back, in the manager: the transaction is closed, then LCE is settled.
 -- 01 "The books", Commit, roll back; 02 (i); 004 III-B "LCE" and Table I, where only a commit moves LCE.
--- In order: committed_txns, dropped_txns, settled_lce, oldest_open, settled, committed_manager, rolled_back_manager. Laws:
+-- In order: committed_txns, dropped_txns, settled_lce, oldest_open, settled, committed_manager, rolled_back_manager.
+-- Laws:
 -- laws/proofs/Laws/Close.antt.
 -- Assumes nothing.
 use Rattle.std.specs.Prelude.{Bool, not, ◌&&◌, ◌||◌, cond, ℕ, max, ltb, leb}

@@ -2,7 +2,8 @@
 -- It shares nothing with the store but lists and numbers, and how a file is read (02 (v), Checkpoint.antt). In order:
 -- lines, Ledger, Event, heard, what it shows.
 -- Assumes nothing.
-use Rattle.std.specs.Prelude.{Bool, false, not, ◌&&◌, ◌||◌, cond, ℕ, suc, ◌-◌, max, get_or, set, replicate, ltb, leb, eqb}
+use Rattle.std.specs.Prelude.{Bool, false, not, ◌&&◌, ◌||◌, cond, ℕ, suc, ◌-◌, max, get_or, set, replicate, ltb, leb}
+use Rattle.std.specs.Prelude.{eqb}
 use mathlib.Core.List.{List, [], ◌∷◌, ◌++◌, map, foldr}
 use Rattle.lists.specs.Lists.{keep_if, any_of, first_of, elem}
 use Rattle.rules.specs.Checkpoint.{Checkpoint, saved_in}

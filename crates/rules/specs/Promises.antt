@@ -2,7 +2,8 @@
 -- In order: the calls that close a reader, and what its own calls change; a page; a load; a load lands whole.
 -- Proofs: laws/proofs/Promises.antt.
 -- Assumes nothing.
-use Rattle.std.specs.Prelude.{◌≡◌, Bool, true, false, not, ◌&&◌, cond, List, [], ◌∷◌, ◌++◌, map, ℕ, ◌≤◌, ◌<◌, length, eqb}
+use Rattle.std.specs.Prelude.{◌≡◌, Bool, true, false, not, ◌&&◌, cond, List, [], ◌∷◌, ◌++◌, map, ℕ, ◌≤◌, ◌<◌, length}
+use Rattle.std.specs.Prelude.{eqb}
 use Rattle.lists.specs.Lists.{keep_if, all_of, elem}
 use Rattle.rules.specs.Limits.{partitions_max, last_epoch}
 use Rattle.rules.specs.Bitmap.{bytes_for}
@@ -142,7 +143,8 @@ pub record LandsWhole (r : Reader) (g : Ledger) (st : Store) : Type 0 where
   pub shown : (p : ℕ) → words_in (shown_lines r p g) ≡ shown_by r p g
   pub scans : (p : ℕ) → p < partitions_max → (lent : List ℕ) → bytes_for (partition_at p st).rows ≤ length lent
       → words_scanned r p lent st ≡ words_in (shown_lines r p g)
-  pub whole : (j : ℕ) → elem j (marks_in r g) ≡ true → (p : ℕ) → marked j (shown_lines r p g) ≡ marked j (unhidden r p g)
+  pub whole : (j : ℕ) → elem j (marks_in r g) ≡ true → (p : ℕ) → marked j (shown_lines r p g)
+      ≡ marked j (unhidden r p g)
   pub nothing : (j : ℕ) → elem j (marks_in r g) ≡ false → (p : ℕ) → marked j (shown_lines r p g) ≡ []
 
 abbrev pub HistoryLandsWhole : Type 0

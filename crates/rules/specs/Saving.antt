@@ -3,7 +3,8 @@
 -- save after a history; recovery of what was saved.
 -- Proofs: laws/proofs/Cuts.antt (every cut), laws/proofs/Saving.antt, laws/proofs/Recovers.antt.
 -- Assumes nothing.
-use Rattle.std.specs.Prelude.{◌≡◌, Bool, true, ◌&&◌, cond, List, [], ◌∷◌, ◌++◌, map, ℕ, ◌+◌, ◌-◌, ◌^◌, ◌≤◌, ◌<◌, length, take, drop, get_or, ltb, leb, eqb}
+use Rattle.std.specs.Prelude.{◌≡◌, Bool, true, ◌&&◌, cond, List, [], ◌∷◌, ◌++◌, map, ℕ, ◌+◌, ◌-◌, ◌^◌, ◌≤◌, ◌<◌}
+use Rattle.std.specs.Prelude.{length, take, drop, get_or, ltb, leb, eqb}
 use Rattle.lists.specs.Lists.{gather, keep_if, all_of}
 use Rattle.rules.specs.Limits.{last_epoch, partitions_max}
 use Rattle.rules.specs.Bitmap.{bytes_for}

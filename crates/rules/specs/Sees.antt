@@ -1,5 +1,6 @@
 -- Which epochs a reader sees, and which deletes it applies. 01 "Who sees a row"; 004 III-C 3, IV-C.
--- In order: sees_rw, applies_rw, up_to; is_own, is_later, is_pending, is_finished, categories. Laws: proofs/Categories.antt,
+-- In order: sees_rw, applies_rw, up_to; is_own, is_later, is_pending, is_finished, categories. Laws:
+-- proofs/Categories.antt,
 -- laws/proofs/Laws/Sees.antt.
 -- Assumes nothing.
 use Rattle.std.specs.Prelude.{Bool, not, ◌&&◌, ◌||◌, List, [], ◌∷◌, ℕ, ltb, leb, eqb}

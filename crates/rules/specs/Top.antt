@@ -2,7 +2,8 @@
 -- `hidden-top`). 01 "Who sees a row".
 -- In order: Top, top_delete, covers, flags_by. Laws: laws/proofs/Laws/TopDelete.antt.
 -- Assumes nothing.
-use Rattle.std.specs.Prelude.{Bool, not, ◌&&◌, ◌||◌, cond, List, [], ◌∷◌, ◌++◌, ℕ, suc, ltb, leb, eqb, length, replicate}
+use Rattle.std.specs.Prelude.{Bool, not, ◌&&◌, ◌||◌, cond, List, [], ◌∷◌, ◌++◌, ℕ, suc, ltb, leb, eqb, length}
+use Rattle.std.specs.Prelude.{replicate}
 use Rattle.rules.specs.Span.{Span, is_delete}
 
 -- the greatest epoch of an applied delete, and one more than the index of the last such delete; 0 and 0 with

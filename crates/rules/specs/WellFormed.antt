@@ -3,7 +3,8 @@
 -- areas, well_formed, the totals, sound.
 -- Laws: laws/proofs/Laws/WellFormed.antt.
 -- Assumes nothing.
-use Rattle.std.specs.Prelude.{Bool, true, not, ◌&&◌, ◌||◌, List, [], ◌∷◌, map, ℕ, suc, ◌*◌, length, take, drop, get_or, ltb, leb, eqb}
+use Rattle.std.specs.Prelude.{Bool, true, not, ◌&&◌, ◌||◌, List, [], ◌∷◌, map, ℕ, suc, ◌*◌, length, take, drop}
+use Rattle.std.specs.Prelude.{get_or, ltb, leb, eqb}
 use Rattle.lists.specs.Lists.{any_of, all_of, elem, distinct, rises, part}
 use Rattle.rules.specs.Limits.{last_epoch, last_ticket, writers_max, readers_max, deps_max, areas_max}
 use Rattle.rules.specs.Limits.{rows_max, entries_max}

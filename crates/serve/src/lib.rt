@@ -2,6 +2,7 @@
 // No contract can say what is read or written. So the loop does nothing but read, take a turn and write; what a turn
 // makes of the bytes is said of slices (src/turn.rt).
 #![tactic(auto)]
+
 ghost use Rattle.std.specs.Prelude.{◌≡◌, ◌+◌, ◌≤◌, length, take};
 ghost use Rattle.store.specs.Kept.{store_of};
 ghost use Rattle.serve.specs.Turn.{Roomy, Opened};

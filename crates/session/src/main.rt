@@ -5,6 +5,7 @@
 // answers: cargo build --release --offline --locked --manifest-path model/Cargo.toml --target-dir target/cargo, then
 // target/cargo/release/session <crates/session/stdin >crates/session/stdout.
 #![tactic(auto)]
+
 fn main() {
     serve::nizgulk_session();
 }

@@ -25,5 +25,6 @@ fitting ws buffer = take (length buffer) ws
 
 abbrev pub shown_in : Command → Answer → Partitions → List ℕ → List ℕ → List ℕ
 shown_in c a ps bitmap rows =
-    on_scan_command c (λ (r : Reader) (p : ℕ). shown_words bitmap (partition_in ps p).area (first_value (reply_of a)) rows)
+    on_scan_command c (λ (r : Reader) (p : ℕ). shown_words bitmap (partition_in ps p).area (first_value (reply_of a))
+    rows)
     []

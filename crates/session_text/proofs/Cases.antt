@@ -72,7 +72,8 @@ edges =
     ∷ []
 
 input-read : map (λ (r : Read). parsed (bytes r.line)) input ≡ map (λ (r : Read). r.is) input
-unfolding parsed parsed_short words value_of is_number are_numbers numbers_of with_one with_two with_more with_numbers scan_by
+unfolding parsed parsed_short words value_of is_number are_numbers numbers_of with_one with_two with_more with_numbers
+    scan_by
 input-read = refl
 
 input-numbers : map (λ (r : Read). numbers_in (bytes r.line)) input ≡ map (λ (r : Read). r.numbers) input
@@ -80,7 +81,8 @@ unfolding words value_of numbers_of numbers_in
 input-numbers = refl
 
 edges-read : map (λ (r : Read). parsed (bytes r.line)) edges ≡ map (λ (r : Read). r.is) edges
-unfolding parsed parsed_short words value_of is_number are_numbers numbers_of with_one with_two with_more with_numbers scan_by
+unfolding parsed parsed_short words value_of is_number are_numbers numbers_of with_one with_two with_more with_numbers
+    scan_by
 edges-read = refl
 
 edges-numbers : map (λ (r : Read). numbers_in (bytes r.line)) edges ≡ map (λ (r : Read). r.numbers) edges
@@ -94,7 +96,8 @@ others =
     ∷ "C -1" ∷ "C 18446744073709551616" ∷ []
 
 others-bad : map (λ (l : String). parsed (bytes l)) others ≡ replicate 15 Bad
-unfolding parsed parsed_short words value_of is_number are_numbers numbers_of with_one with_two with_more with_numbers scan_by
+unfolding parsed parsed_short words value_of is_number are_numbers numbers_of with_one with_two with_more with_numbers
+    scan_by
 others-bad = refl
 
 -- ---- output

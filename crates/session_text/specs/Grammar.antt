@@ -2,7 +2,8 @@
 -- In order: the letter of a call, words, numbers, a letter with its numbers, a scan, a line.
 -- Laws: proofs/Laws/Grammar.antt.
 -- Assumes nothing.
-use Rattle.std.specs.Prelude.{Bool, true, false, ◌&&◌, cond, List, [], ◌∷◌, map, ℕ, ◌+◌, ◌-◌, ◌*◌, ◌^◌, length, ltb, leb, eqb}
+use Rattle.std.specs.Prelude.{Bool, true, false, ◌&&◌, cond, List, [], ◌∷◌, map, ℕ, ◌+◌, ◌-◌, ◌*◌, ◌^◌, length, ltb}
+use Rattle.std.specs.Prelude.{leb, eqb}
 use Rattle.lists.specs.Lists.{all_of}
 use Rattle.rules.specs.declared.Command.{Command}
 use Rattle.rules.specs.declared.Command.TheVariants.{Create, Manage, Append, Clear, RollBack, Scan, Purge}

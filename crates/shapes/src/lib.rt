@@ -1,3 +1,4 @@
-// The shapes of functions that are lent the store's areas, each with its walk, in proofs/: a new function of a shape is
-// an instance. There is no code here.
+// The shapes of loops over the store's lent areas, each with its laws, in proofs/: a new loop of a shape is an
+// instance.
+// There is no code here.
 #![tactic(auto)]

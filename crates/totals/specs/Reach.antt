@@ -1,5 +1,6 @@
 -- Some epochs, the greatest clearing among them, and the rows that it leaves. 01 "Who sees a row".
--- In order: in_reach, page_reach, the greatest clearing by one pass, cut_of, cuts_of, shows. Laws: proofs/Laws/Weighs.antt.
+-- In order: in_reach, page_reach, the greatest clearing by one pass, cut_of, cuts_of, shows. Laws:
+-- proofs/Laws/Weighs.antt.
 -- Assumes nothing.
 use Rattle.std.specs.Prelude.{Bool, not, ◌&&◌, cond, ℕ, ltb, leb, eqb}
 use Rattle.rules.specs.Limits.{rows_max}

@@ -1,5 +1,6 @@
 -- Closing and settling as one pass over rising records sees them. 01 "The books", Commit, roll back.
--- The rules' own wording is settled_lce and oldest_open (rules/specs/Close.antt); proofs/Laws/Settle.antt shows that the
+-- The rules' own wording is settled_lce and oldest_open (rules/specs/Close.antt); proofs/Laws/Settle.antt shows that
+-- the
 -- two agree.
 -- In order: lead, run_lce, first_open, the books, the transaction closed, LCE then, the search for it.
 -- Assumes nothing.

@@ -5,7 +5,8 @@
 -- In order: records in turn, one read-write record with its row and all of them, one read-only record and all of
 -- them.
 -- Assumes nothing.
-use Rattle.std.specs.Prelude.{Bool, true, false, ◌&&◌, ◌||◌, List, [], ◌∷◌, ℕ, suc, ◌*◌, ltb, leb, eqb, length, take, drop}
+use Rattle.std.specs.Prelude.{Bool, true, false, ◌&&◌, ◌||◌, List, [], ◌∷◌, ℕ, suc, ◌*◌, ltb, leb, eqb, length, take}
+use Rattle.std.specs.Prelude.{drop}
 use Rattle.lists.specs.Lists.{all_of, rises}
 use Rattle.rules.specs.Limits.{writers_max, readers_max, deps_max, deps_all, last_ticket}
 use Rattle.rules.specs.WellFormed.{zeros, unused_rw, unused_ro}

@@ -1,3 +1,3 @@
-// A kit for walks by hand over functions that are lent slices: lemmas about locals, loans and calls, in proofs/. It
-// knows no function and no type of the store. There is no code here.
+// Once a kit for proofs by hand over functions that are lent slices. The toolchain now writes that part of a proof by
+// itself, and there is nothing here: no code, and no lemma.
 #![tactic(auto)]

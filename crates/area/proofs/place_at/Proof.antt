@@ -16,12 +16,20 @@ returns_2 c = rw (lt-ltb _ _ c.before.if-count-i.false, le-ltb _ _ c.if-i-ge-ENT
 returns_3 : tie.Need-returns-then-base-ge-ENTRIES_LENT
 unfolding place_at
 returns_3 c = let e = c.before in
-    rw (lt-ltb _ _ e.before.if-count-i.false, lt-ltb _ _ e.if-i-ge-ENTRIES_MAX.false, le-ltb _ _ c.if-base-ge-ENTRIES_LENT.true)
+    rw (
+      lt-ltb _ _ e.before.if-count-i.false,
+      lt-ltb _ _ e.if-i-ge-ENTRIES_MAX.false,
+      le-ltb _ _ c.if-base-ge-ENTRIES_LENT.true,
+    )
 
 returns_4 : tie.Need-returns
 unfolding place_at
 returns_4 c = let e = c.before in
-    rw (lt-ltb _ _ e.before.if-count-i.false, lt-ltb _ _ e.if-i-ge-ENTRIES_MAX.false, lt-ltb _ _ c.if-base-ge-ENTRIES_LENT.false)
+    rw (
+      lt-ltb _ _ e.before.if-count-i.false,
+      lt-ltb _ _ e.if-i-ge-ENTRIES_MAX.false,
+      lt-ltb _ _ c.if-base-ge-ENTRIES_LENT.false,
+    )
 
 pub place_at_spec : {M : Type 1} → statement M
 place_at_spec =

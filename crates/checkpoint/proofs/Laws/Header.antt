@@ -13,7 +13,8 @@ use borrow.Author.Tests.{ltb-true, ltb-false, lt-ltb, le-ltb}
 use Rattle.lists.specs.Lists.{all_of}
 use Rattle.lists.proofs.Laws.Bools.{split}
 use Rattle.rules.specs.Limits.{rows_max, partitions_max}
-use Rattle.rules.specs.Checkpoint.{header_size, header_ok, sum_of, body_size, rows_in, numbers_in, last_from, checkpoint_in}
+use Rattle.rules.specs.Checkpoint.{header_size, header_ok, sum_of, body_size, rows_in, numbers_in, last_from}
+use Rattle.rules.specs.Checkpoint.{checkpoint_in}
 use Rattle.rules.specs.Checkpoint.{is_corrupt, checkpoint_of}
 use Rattle.checkpoint.specs.declared.Found.{Found}
 use Rattle.checkpoint.specs.declared.Header.{Header}
@@ -124,7 +125,8 @@ unfolding last_from header_from found_in
 from_found last zero h file i le = refl
 from_found last (suc n) h file i le = let g = header_at file i in
     rw (ltb-drop i header_size file le, drop-drop header_size i file)
-    (split (ltb (length file) (i + header_size)) (λ t. rw t) λ f. let le' = ltb-false (length file) (i + header_size) f in
+    (split (ltb (length file) (i + header_size)) (λ t. rw t) λ f. let le' = ltb-false (length file) (i + header_size)
+    f in
     split (ok_after last h g) (λ ok. rw (f, ok, ltb-drop (i + header_size) (body_size g.counts) file le')
     (split (ltb (length file) (end_of g)) (λ t. rw t) λ b.
     rw (b, drop-drop (body_size g.counts) (i + header_size) file)

@@ -89,7 +89,8 @@ weight-end w k bs e = rw e
 
 -- those of v bytes behind one of w
 pub write-behind : (w v at x : ℕ) (xs l : List ℕ) → at + (w + v * length xs) ≤ length l
-    → over (at + w) (gather (bytes_of v) xs) (over at (bytes_of w x) l) ≡ over at (bytes_of w x ++ gather (bytes_of v) xs) l
+    → over (at + w) (gather (bytes_of v) xs) (over at (bytes_of w x) l)
+    ≡ over at (bytes_of w x ++ gather (bytes_of v) xs) l
 write-behind w v at x xs l h = let n = length-bytes_of w x in let m = length-numbers v xs in
     let e : at + w ≡ at + length (bytes_of w x) = omega arith in
     rw e (sym (over-append at (bytes_of w x) (gather (bytes_of v) xs) l (omega arith)))

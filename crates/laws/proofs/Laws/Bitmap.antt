@@ -38,7 +38,8 @@ byte_of-below : (k : ℕ) (bs : List Bool) → byte_of (take k bs) < 2 ^ k
 unfolding byte_of
 byte_of-below zero bs = omega arith
 byte_of-below (suc k) [] = let ih = byte_of-below k [] in rw (pow-succ' 2 k) (omega arith)
-byte_of-below (suc k) (b ∷ bs) = let ih = byte_of-below k bs in let g = bit_of-small b in rw (pow-succ' 2 k) (omega arith)
+byte_of-below (suc k) (b ∷ bs) = let ih = byte_of-below k bs in let g = bit_of-small b in
+    rw (pow-succ' 2 k) (omega arith)
 
 pub byte_of-small : (bs : List Bool) → byte_of (take 8 bs) < 256
 byte_of-small bs = byte_of-below 8 bs

@@ -146,7 +146,12 @@ advance-passed t sound m h =
     let lo = m.clock.lse in let hi = m.clock.lce in
     let a = passed Unsound (not sound) _ h in let b = passed OutOfRange (not (within lo hi (target_of t m))) _ a.rest in
     let c = passed Blocked (blocked (target_of t m) m) _ b.rest in
-    record { sound = not-false sound a.test; low = within_low lo hi _ b.test; high = within-high lo hi _ b.test; free = c.test }
+    record {
+      sound = not-false sound a.test;
+      low = within_low lo hi _ b.test;
+      high = within-high lo hi _ b.test;
+      free = c.test;
+    }
 
 -- append, clear: an open transaction, a partition, and room
 pub record WritePassed (i p : ℕ) (st : Store) : Type 0 where

@@ -18,7 +18,8 @@ use Rattle.lists.proofs.Laws.Bools.{and_left, and_right, or_cases}
 use Rattle.lists.proofs.Laws.Parts.{get_d-pad}
 use Rattle.lists.proofs.Laws.Tests.{and-three, and-four}
 use Rattle.rules.specs.Limits.{last_epoch, rows_max, partitions_max}
-use Rattle.rules.specs.Checkpoint.{bytes_of, Checkpoint, no_checkpoint, encoded, header_size, sum_of, epoch_in, counts_in}
+use Rattle.rules.specs.Checkpoint.{bytes_of, Checkpoint, no_checkpoint, encoded, header_size, sum_of, epoch_in}
+use Rattle.rules.specs.Checkpoint.{counts_in}
 use Rattle.rules.specs.Checkpoint.{body_size, rows_in, header_ok, Found, found, corrupt, last_from, checkpoint_in}
 use Rattle.rules.specs.Checkpoint.{checkpoint_of, saved_in}
 use Rattle.rules.specs.Saving.{is_word, savable}

@@ -108,14 +108,16 @@ module _ {st : Store} {g : Ledger} (F : Follows st g) where
       → snapshot_epoch e (manager_of st) ≤ (manager_of st).clock.lce → ((manager_of st).readers.next ≡ suc last_ticket →
       ⊥)
       → (manager_of st).readers.count < readers_max
-      → Follows (refreshed (with_manager (begun_ro_manager e (manager_of st)) st)) (with_opened e (manager_of st).readers.next g)
+      → Follows (refreshed (with_manager (begun_ro_manager e (manager_of st)) st))
+      (with_opened e (manager_of st).readers.next g)
   unfolding begun_ro_manager
   follows-begin_ro e low high last room = let m = manager_of st in
       with-manager (begun_ro_manager e m) (with_opened e m.readers.next g) (tracks-begin_ro F.tracks e low high
       last room) refl
       (λ j q. begun_ro-epoch_ok e m j ∙ q) (λ ss ls P. P)
 
-  pub follows-end_ro : (t : ℕ) → Follows (refreshed (with_manager (ended_ro_manager t (manager_of st)) st)) (with_open_ro
+  pub follows-end_ro : (t : ℕ) → Follows (refreshed (with_manager (ended_ro_manager t (manager_of st)) st))
+      (with_open_ro
       (without t
       g.readers) g)
   unfolding ended_ro_manager
@@ -125,7 +127,8 @@ module _ {st : Store} {g : Ledger} (F : Follows st g) where
 
   pub follows-advance : (t : ℕ) → (manager_of st).clock.lse ≤ target_of t (manager_of st) → target_of t (manager_of st)
       ≤ (manager_of st).clock.lce
-      → blocked (target_of t (manager_of st)) (manager_of st) ≡ false → Follows (refreshed (with_manager (advanced_manager t
+      → blocked (target_of t (manager_of st)) (manager_of st) ≡ false
+      → Follows (refreshed (with_manager (advanced_manager t
       (manager_of st)) st)) g
   unfolding advanced_manager
   follows-advance t low high free = let m = manager_of st in
@@ -135,7 +138,8 @@ module _ {st : Store} {g : Ledger} (F : Follows st g) where
   -- ---- roll back: the manager, and every partition
 
   pub follows-rollback : (i : ℕ) → has_open i (manager_of st) ≡ true
-      → Follows (refreshed (with_manager (rolled_back_manager i (manager_of st)) (rolled_back_below i partitions_max st)))
+      → Follows (refreshed (with_manager (rolled_back_manager i (manager_of st))
+      (rolled_back_below i partitions_max st)))
       (with_open_rw g.committed (without i g.writers) g)
   unfolding rolled_back_manager settled
   follows-rollback i o =
@@ -180,7 +184,8 @@ module _ {st : Store} {g : Ledger} (F : Follows st g) where
         → lines_of ss ≡ lines_of (spans_at p st) ++ ys
         → AllLines (λ x. mark_of x ≡ i) ys → Follows st' (with_added p ys g)
     added ss st' ys C t e a = let w = tracks-writer F.tracks i o in
-        changed p h ss st' C (sound-added st F.ok i p ss st' ys o C t e a) (lines_at p g ++ ys) (follows-added (F.partition p h) i ss ys w.1 w.2 w.0 e a)
+        changed p h ss st' C (sound-added st F.ok i p ss st' ys o C t e a) (lines_at p g ++ ys)
+        (follows-added (F.partition p h) i ss ys w.1 w.2 w.0 e a)
 
     pub follows-append : (batch : List ℕ) → (partition_at p st).rows + length batch ≤ rows_max
         → length (appended i batch (spans_at p st)) ≤ entries_max

@@ -56,7 +56,8 @@ shown-lines s a ss = shown-lines_in s a ss ss
 
 -- ---- what is shown is some of the words
 
-shown_in-all : (P : ℕ → Type 0) (s a : ℕ → Bool) (all ss : List Span) → All P (words_of ss) → All P (shown_in s a all ss)
+shown_in-all : (P : ℕ → Type 0) (s a : ℕ → Bool) (all ss : List Span) → All P (words_of ss)
+    → All P (shown_in s a all ss)
 unfolding shown_in words_of
 shown_in-all P s a all [] h = tt
 shown_in-all P s a all (t ∷ ss) h =
@@ -133,4 +134,5 @@ ones-flags s a ss = ones-select (flags s a ss) (words_of ss) (length-flags s a s
 -- demand 3, of one scan: the words at the ones that it writes
 pub scan-shows : (s a : ℕ → Bool) (ss : List Span) (lent : List ℕ)
     → words_at_ones (bitmap_after (flags s a ss) lent) 0 (words_of ss) ≡ shows s a (lines_of ss)
-scan-shows s a ss lent = bitmap-words (flags s a ss) lent (words_of ss) (sym (length-flags s a ss)) ∙ select-flags s a ss
+scan-shows s a ss lent = bitmap-words (flags s a ss) lent (words_of ss) (sym (length-flags s a ss))
+    ∙ select-flags s a ss

@@ -114,7 +114,8 @@ module _ (p s a : ℕ → Bool) where
   unfolding concealed
   concealed-keep all xs j = rw (one (ltb j) all, one (eqb j) xs)
     where
-      one : (q : ℕ → Bool) (ys : List Line) → any_delete (both a q) (keep_lines p ys) ≡ any_delete (both (both p a) q) ys
+      one : (q : ℕ → Bool) (ys : List Line) → any_delete (both a q) (keep_lines p ys)
+          ≡ any_delete (both (both p a) q) ys
       one q ys = any_delete-keep (both a q) p ys ∙ any_delete_ext _ _ (λ k. sym (and_assoc (p k) (a k) (q k))) ys
 
   shows_keep_in : (all xs : List Line)

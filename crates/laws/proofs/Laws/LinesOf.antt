@@ -88,7 +88,8 @@ lines-extended i ws (s ∷ []) = split (is_rows_of i s)
 lines-extended i ws (s ∷ t ∷ ss) =
     rw (lines-extended i ws (t ∷ ss)) (sym (append_assoc (span_lines s) (lines_of (t ∷ ss)) (map (row i) ws)))
 
-pub lines-appended : (i : ℕ) (ws : List ℕ) (ss : List Span) → lines_of (appended i ws ss) ≡ lines_of ss ++ map (row i) ws
+pub lines-appended : (i : ℕ) (ws : List ℕ) (ss : List Span) → lines_of (appended i ws ss)
+    ≡ lines_of ss ++ map (row i) ws
 unfolding appended
 lines-appended i [] ss = sym (append-nil (lines_of ss))
 lines-appended i (w ∷ ws) ss = lines-extended i (w ∷ ws) ss
@@ -193,7 +194,8 @@ concealed-above l all xs j h = rw (none (ltb j) all far, none (eqb j) xs near)
     near : (k : ℕ) → k ≤ l → eqb j k ≡ false
     near k g = ne_eqb j k (λ e. omega arith)
 
-lines-purged_in : (l : ℕ) (all ss : List Span) → lines_of (purged_in l all ss) ≡ purge_lines_in l (lines_of all) (lines_of ss)
+lines-purged_in : (l : ℕ) (all ss : List Span) → lines_of (purged_in l all ss)
+    ≡ purge_lines_in l (lines_of all) (lines_of ss)
 unfolding purged_in purge_lines_in
 lines-purged_in l all [] = unfold lines_of in refl
 lines-purged_in l all (s ∷ ss) = let ih = lines-purged_in l all ss in

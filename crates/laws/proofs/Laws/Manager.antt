@@ -177,7 +177,8 @@ manager-ok m f = let w = f.writers in let r = f.readers in rw (
 pub readers_of_with : (ps : List RoTxn) (n : ℕ) (m : Manager) → readers_of (with_readers ps n m) ≡ ps
 readers_of_with ps n m = take-pad readers_max no_ro ps
 
-pub writers-with : (m : Manager) (c : Clock) (ts : List Writer) → ManagerFacts m → ClockFacts c → length ts ≤ writers_max
+pub writers-with : (m : Manager) (c : Clock) (ts : List Writer) → ManagerFacts m → ClockFacts c
+    → length ts ≤ writers_max
     → WriterFacts c ts → ReaderFacts c.lse c.lce m.readers.next (readers_of m)
     → ManagerFacts (with_clock c (with_writers ts m))
 writers-with m c ts f clock room writers readers = record {

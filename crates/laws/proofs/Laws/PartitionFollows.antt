@@ -58,7 +58,8 @@ module _ {l ec : ℕ} {alive : ℕ → Bool} {ss : List Span} {ls : List Line} (
         → PartitionFollows l ec' alive' ss ls
     follows-alive ec' alive' h g = record {
       below = All_imp _ _ (λ x q. omega arith) ls F.below;
-      agree = F.agree ∙ ap (purge_lines l) (sym (keep_ext alive' alive ls (All_imp _ _ (λ x q. g (mark_of x) q) ls F.below)));
+      agree = F.agree ∙ ap (purge_lines l) (sym (keep_ext alive' alive ls
+          (All_imp _ _ (λ x q. g (mark_of x) q) ls F.below)));
     }
 
     -- roll back of i
@@ -81,7 +82,11 @@ module _ {l ec : ℕ} {alive : ℕ → Bool} {ss : List Span} {ls : List Line} (
         past xs = keep-purge l others (λ j q. ap not (ne_eqb j i (λ e. omega arith))) xs
 
     pub follows-advanced : (m : ℕ) → l ≤ m → PartitionFollows m ec alive ss ls
-    follows-advanced m h = record { below = F.below; agree = purge-later l m (lines_of ss) (keep_lines alive ls) h F.agree }
+    follows-advanced m h = record {
+      below = F.below;
+      agree = purge-later l m (lines_of ss) (keep_lines alive ls) h
+          F.agree;
+    }
 
     pub follows-purged : PartitionFollows l ec alive (cond (skips l ss) ss (purged l ss)) ls
     follows-purged = split (skips l ss) (λ t. rw t F) (λ f. rw f (record {

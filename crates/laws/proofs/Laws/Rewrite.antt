@@ -91,7 +91,8 @@ length-joined (s ∷ ss) = let ih = length-joined ss in let g = length-joined_on
 abbrev pub Joins : (Span → Type 0) → Type 0
 Joins P = (s t : Span) → is_delete s ≡ false → P s → P t → P (rows_span s.epoch (s.words ++ t.words))
 
-All-joined_onto : (P : Span → Type 0) → Joins P → (s : Span) (ts : List Span) → P s → All P ts → All P (joined_onto s ts)
+All-joined_onto : (P : Span → Type 0) → Joins P → (s : Span) (ts : List Span) → P s → All P ts
+    → All P (joined_onto s ts)
 unfolding joined_onto
 All-joined_onto P j s [] p a = (p, tt)
 All-joined_onto P j s (t ∷ ts) p a = split (joins s t)
@@ -114,7 +115,8 @@ words-keep_if q (s ∷ ss) = let ih = words-keep_if q ss in
 -- ---- purged_in
 
 -- by cases: a span goes, stays, or stays as rows of at least l
-purged_in-cases : (P : List Span → Type 0) (l : ℕ) (all : List Span) (s : Span) (ss : List Span) → P (purged_in l all ss)
+purged_in-cases : (P : List Span → Type 0) (l : ℕ) (all : List Span) (s : Span) (ss : List Span)
+    → P (purged_in l all ss)
     → (is_delete s ≡ true → P (s ∷ purged_in l all ss))
     → (is_delete s ≡ false → P (rows_span (max s.epoch l) s.words ∷ purged_in l all ss))
     → P (purged_in l all (s ∷ ss))

@@ -181,7 +181,8 @@ advanced-ok t m ok high b = let n = target_of t m in
 module _ (m : Manager) (ok : manager_ok m ≡ true) where
   low-dep : (i : ℕ) → has_open i m ≡ true → (j : ℕ) → j ≤ m.clock.lse → elem j (deps_at i m) ≡ false
   low-dep i o j h = split (elem j (deps_at i m))
-      (λ t. let x = first_of (opens i) no_writer (writers_of m) in let w = first_in (opens i) no_writer (writers_of m) o in
+      (λ t. let x = first_of (opens i) no_writer (writers_of m) in
+      let w = first_in (opens i) no_writer (writers_of m) o in
       let b = (lse-free m (manager-facts m ok)).deps x w.0 (opens_open i x w.1) j (elem_in j (deps_at i m) t) in
       absurd (omega arith))
       (λ f. f)

@@ -82,7 +82,8 @@ module _ (st : Store) (ok : SoundOk st) (r : Reader) (p : ℕ) (h : p < partitio
     pub scan-counts : is_reader r (manager_of st) ≡ true
         → second_value (reply_of (step (scan r p lent) st).answer) ≡ length (spans_show r p st)
     unfolding step flags_at
-    scan-counts o = let m = manager_of st in rw (answer_open o) (ones-flags (sees_of r m) (applies_of r m) (spans_at p st))
+    scan-counts o = let m = manager_of st in rw (answer_open o)
+        (ones-flags (sees_of r m) (applies_of r m) (spans_at p st))
 
     pub scan-spans : is_reader r (manager_of st) ≡ true → words_scanned r p lent st ≡ spans_show r p st
     unfolding step flags_at
@@ -118,7 +119,8 @@ module _ (p : ℕ) (st : Store) (ok : SoundOk st) (r : Reader) (o : is_reader r 
   -- the partition's spans once purged
   rewritten : shows_to r (manager_of st) (cond (skips lse ss) ss (purged lse ss)) ≡ spans_show r p st
   rewritten = let m = manager_of st in split (skips lse ss) (λ t. rw t) (λ f. rw (f, lines-purged lse ss)
-      (shows-purge lse (sees_of r m) (applies_of r m) (low-sees m ok.shape.manager r o) (low_applies m ok.shape.manager r o)
+      (shows-purge lse (sees_of r m) (applies_of r m) (low-sees m ok.shape.manager r o)
+      (low_applies m ok.shape.manager r o)
       (lines_of ss)))
 
   purged-shows : p < partitions_max → (q : ℕ) → q < partitions_max

@@ -62,7 +62,8 @@ pub keeps_same : (g : Ledger) (r : Reader) → is_open_in r g ≡ true → Keeps
 keeps_same g r o = record { opened = o; marks = refl }
 
 -- the lines do not matter
-pub keeps-lines : (ls : List (List Line)) (g : Ledger) (r : Reader) → is_open_in r g ≡ true → Keeps r g (with_lines ls g)
+pub keeps-lines : (ls : List (List Line)) (g : Ledger) (r : Reader) → is_open_in r g ≡ true
+    → Keeps r g (with_lines ls g)
 keeps-lines ls g (Rw i) o = record { opened = o; marks = refl }
 keeps-lines ls g (Ro t) o = record { opened = o; marks = refl }
 

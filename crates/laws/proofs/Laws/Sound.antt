@@ -253,7 +253,8 @@ unfolding purged
 length-purged l ss = let a = length-joined (purged_in l ss ss) in let b = length-purged_in l ss ss in omega arith
 
 pub rewrite-fits : (st : Store) → StoreOk st → (p : ℕ) → p < partitions_max → (l i : ℕ)
-    → RewriteFits (purged l (spans_at p st)) (spans_at p st) × RewriteFits (rolled_back i (spans_at p st)) (spans_at p st)
+    → RewriteFits (purged l (spans_at p st)) (spans_at p st)
+    × RewriteFits (rolled_back i (spans_at p st)) (spans_at p st)
 rewrite-fits st ok p h l i = let ss = spans_at p st in let k = (ok.partition p h).spans-ok in (
   record {
     rows = words-purged l ss;

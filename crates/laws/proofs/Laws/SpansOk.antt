@@ -129,7 +129,8 @@ spans-ok-cleared m i ss h e ok = record {
 -- ---- roll back
 
 pub spans-ok-rolled_back : (m m' : Manager) (i : ℕ) (ss : List Span)
-    → ((j : ℕ) → epoch_ok m j ≡ true → (j ≡ i → ⊥) → epoch_ok m' j ≡ true) → SpansOk m ss → SpansOk m' (rolled_back i ss)
+    → ((j : ℕ) → epoch_ok m j ≡ true → (j ≡ i → ⊥) → epoch_ok m' j ≡ true) → SpansOk m ss
+    → SpansOk m' (rolled_back i ss)
 unfolding rolled_back
 spans-ok-rolled_back m m' i ss f ok = let q : Span → Bool = λ s. not (eqb s.epoch i) in
     let a = length-keep_if q ss in let b = length-joined (keep_if q ss) in let c = words-keep_if q ss in

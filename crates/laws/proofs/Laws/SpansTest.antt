@@ -57,7 +57,8 @@ filled_of rows n [] h = tt
 filled_of rows n (s ∷ ss) h = let k = n + length s.words in let c = end-ok rows n (entry_of k s) (entries_of k ss) h in
     (λ f. let g = ltb-true n k (rw f at c.rises) in omega arith, filled_of rows k ss c.rest)
 
-ends_ok-entries : (n : ℕ) (ss : List Span) → All Filled ss → ends_ok (n + length (words_of ss)) n (entries_of n ss) ≡ true
+ends_ok-entries : (n : ℕ) (ss : List Span) → All Filled ss → ends_ok (n + length (words_of ss)) n (entries_of n ss)
+    ≡ true
 unfolding entries_of ends_ok words_of
 ends_ok-entries n [] a = eq-eqb n (n + 0) (omega arith)
 ends_ok-entries n (s ∷ ss) a = let k = n + length s.words in

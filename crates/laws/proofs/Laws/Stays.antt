@@ -64,7 +64,8 @@ same p ws = ws
 pub stays-still : (r : Reader) (g : Ledger) → is_open_in r g ≡ true → Stays r g g same
 stays-still r g o = record { opened = o; shown = λ p h. refl }
 
-shown_by-by : (r : Reader) (p : ℕ) (g g' : Ledger) → marks_in r g' ≡ marks_in r g → (ls : List Line) → lines_at p g' ≡ ls
+shown_by-by : (r : Reader) (p : ℕ) (g g' : Ledger) → marks_in r g' ≡ marks_in r g → (ls : List Line) → lines_at p g'
+    ≡ ls
     → shown_by r p g' ≡ shows_by (marks_in r g) ls
 shown_by-by r p g g' e ls k = shown_by-marks r p g' ∙ (λ x. shows_by (e x) (k x))
 
@@ -161,7 +162,8 @@ module _ {st : Store} {g : Ledger} (F : Follows st g) (r : Reader) (o : is_open_
   by_owner a i q next to h = split (accepted a)
       (λ t. rw t (stays_ext r g _ (λ p ws. cond (is_load i r && eqb p q) (to ws) ws) _
       (λ p ws. ap (λ b. cond b (to ws) ws) (sym (and-true (is_load i r && eqb p q)))) (h t)))
-      (λ f. rw f (stays_ext r g g same _ (λ p ws. ap (λ b. cond b (to ws) ws) (sym (and-false (is_load i r && eqb p q))))
+      (λ f. rw f (stays_ext r g g same _ (λ p ws. ap (λ b. cond b (to ws) ws)
+      (sym (and-false (is_load i r && eqb p q))))
       (stays-still r g o)))
 
   pub stays_step : (c : Call) → spares r c ≡ true

@@ -14,7 +14,8 @@ use Rattle.rules.specs.Begin.{created_manager}
 use Rattle.rules.specs.Span.{spans, entries_of, words_of}
 use Rattle.rules.specs.Append.{appended, cleared}
 use Rattle.rules.specs.Rewrite.{has_epoch, rolled_back, purged, skips}
-use Rattle.rules.specs.Store.{Store, manager_of, partition_at, entries_at, rows_at, spans_at, with_manager, partition_numbers}
+use Rattle.rules.specs.Store.{Store, manager_of, partition_at, entries_at, rows_at, spans_at, with_manager}
+use Rattle.rules.specs.Store.{partition_numbers}
 use Rattle.rules.specs.Store.{laid_in_place}
 use Rattle.rules.specs.Store.{created_store, rolled_back_at, rolled_back_below, purged_store}
 use Rattle.rules.specs.WellFormed.{manager_ok, epoch_ok, lengths_ok}

@@ -57,7 +57,8 @@ module _ (n i j e : ℕ) (top : Top) (below : top.at ≤ n) where
       (sym (or-false (covers top i j))))
 
 module _ (a : ℕ → Bool) (n i j : ℕ) (top : Top) (s : Span) (below : top.at ≤ n) where
-  covers-step : covers (top_step a n top s) i j ≡ covers top i j || (hides a (ltb j) s || (leb i n && hides a (eqb j) s))
+  covers-step : covers (top_step a n top s) i j ≡ covers top i j
+      || (hides a (ltb j) s || (leb i n && hides a (eqb j) s))
   covers-step = split (is_delete s)
       (λ d. split (a s.epoch)
       (λ t. rw (d, t) (split (leb top.epoch s.epoch)

@@ -62,7 +62,8 @@ total_kept st ok p l = eqb-true (get_or st.state.totals p 0) (total_at p st)
     (tests-each (λ q. eqb (get_or st.state.totals q 0) (total_at q st)) ok.totals p l)
 
 -- one for each partition
-pub numbered : {A : Type 0} (f : ℕ → A) (d : A) (p : ℕ) → p < partitions_max → get_or (map f partition_numbers) p d ≡ f p
+pub numbered : {A : Type 0} (f : ℕ → A) (d : A) (p : ℕ) → p < partitions_max → get_or (map f partition_numbers) p d
+    ≡ f p
 numbered f d zero h = refl
 numbered f d (suc zero) h = refl
 numbered f d (suc (suc zero)) h = refl
@@ -213,5 +214,6 @@ module _ (st : Store) (ok : SoundOk st) where
   sound-purged p h = let C = purge-changed st ok.shape p h (purged-epoch_ok m ok.shape.manager) in
       record {
         shape = C.sound;
-        totals = totals-changed p (purged_spans p) st (purged_store p st) C (purged-totals p) (purged-total p) ok.totals;
+        totals = totals-changed p (purged_spans p) st (purged_store p st) C (purged-totals p) (purged-total p)
+            ok.totals;
       }

@@ -80,7 +80,8 @@ pub record WritersTrack (lce ec : ℕ) (ts : List Writer) (start : ℕ) (cs : Li
 -- the read-only transactions ps, and the ledger's rs, where al says which epochs are alive
 pub record ReadersTrack (ps : List RoTxn) (al : ℕ → Bool) (rs : List Snapshot) : Type 0 where
   pub same : (t : ℕ) → any_of (named t) rs ≡ any_of (has_ticket t) ps
-  pub marks : (t : ℕ) → any_of (has_ticket t) ps ≡ true → (j : ℕ) → elem j (marks_of t rs) ≡ al j && leb j (epoch_in t ps)
+  pub marks : (t : ℕ) → any_of (has_ticket t) ps ≡ true → (j : ℕ) → elem j (marks_of t rs) ≡ al j
+      && leb j (epoch_in t ps)
 
 pub record Tracks (m : Manager) (g : Ledger) : Type 0 where
   pub ok : manager_ok m ≡ true

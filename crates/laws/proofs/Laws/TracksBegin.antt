@@ -81,7 +81,8 @@ module _ (e : ℕ) (ts : List Writer) where
   more = ts ++ (begun_txn e ts ∷ [])
 
   opens-more : (j : ℕ) → any_of (opens j) more ≡ any_of (opens j) ts || eqb e j
-  opens-more j = any_of-append (opens j) ts (begun_txn e ts ∷ []) ∙ ap (λ b. any_of (opens j) ts || b) (or-false (eqb e j))
+  opens-more j = any_of-append (opens j) ts (begun_txn e ts ∷ [])
+      ∙ ap (λ b. any_of (opens j) ts || b) (or-false (eqb e j))
 
   deps_old : (i : ℕ) → any_of (opens i) ts ≡ true → deps_in i more ≡ deps_in i ts
   deps_old i o = ap (λ (w : Writer). w.deps) (first_of_old (opens i) no_writer ts (begun_txn e ts ∷ []) o)

@@ -41,7 +41,8 @@ opens-keyed i j t h = rw (opens_open j t h, opens-epoch j t h)
 pub named-keyed : (i j : ℕ) (s : Snapshot) → named j s ≡ true → named i s ≡ eqb j i
 named-keyed i j s h = rw (eqb-true s.name j h)
 
-opens_dropped : (i j : ℕ) (ts : List Writer) → any_of (opens j) (dropped_txns i ts) ≡ any_of (opens j) ts && not (eqb j i)
+opens_dropped : (i j : ℕ) (ts : List Writer) → any_of (opens j) (dropped_txns i ts) ≡ any_of (opens j) ts
+    && not (eqb j i)
 unfolding dropped_txns
 opens_dropped i j ts = any_of-without opens opens-keyed i j ts
 
@@ -81,7 +82,8 @@ opens_kept lce j ts = any_of-keep_if (opens j) (kept lce) ts ∙ any_of-same _ (
 
 first-kept : (lce j : ℕ) (ts : List Writer)
     → first_of (opens j) no_writer (keep_if (kept lce) ts) ≡ first_of (opens j) no_writer ts
-first-kept lce j ts = first_of-keep_if (opens j) no_writer (kept lce) ts (λ t o. or_left (is_open t) _ (opens_open j t o))
+first-kept lce j ts = first_of-keep_if (opens j) no_writer (kept lce) ts
+    (λ t o. or_left (is_open t) _ (opens_open j t o))
 
 -- ---- Closing
 

@@ -20,7 +20,8 @@ use Rattle.lists.proofs.Laws.Filter.{all_of-replicate}
 use Rattle.lists.proofs.Laws.Parts.{take-pad, drop-pad}
 use Rattle.lists.proofs.Laws.Places.{length-pad, padded}
 use Rattle.rules.specs.Limits.{writers_max, deps_max, deps_all}
-use Rattle.rules.specs.Manager.{Writer, no_writer, no_rw, rw_txn, records_of, view, views, writers_of, record_of, row_of}
+use Rattle.rules.specs.Manager.{Writer, no_writer, no_rw, rw_txn, records_of, view, views, writers_of, record_of}
+use Rattle.rules.specs.Manager.{row_of}
 use Rattle.rules.specs.Manager.{with_writers}
 use Rattle.rules.specs.WellFormed.{zeros, room_ok, spares_zero}
 use Rattle.rules.specs.declared.RwTxn.{RwTxn}

@@ -59,7 +59,8 @@ pub total-added : (e i : ℕ) (ss ss' : List Span) (ys : List Line) → e < i �
     → AllLines (λ x. mark_of x ≡ i) ys → total e ss' ≡ total e ss
 total-added e i ss ss' ys h l m =
     total-lines e ss' ∙ (ap (λ xs. weight (shows (up_to e) (up_to e) xs)) l
-    ∙ (ap weight (shows-unseen (up_to e) (up_to e) (lines_of ss) ys (All_imp _ _ unseen ys m)) ∙ sym (total-lines e ss)))
+    ∙ (ap weight (shows-unseen (up_to e) (up_to e) (lines_of ss) ys (All_imp _ _ unseen ys m))
+    ∙ sym (total-lines e ss)))
   where
     unseen : (x : Line) → mark_of x ≡ i → Unseen (up_to e) (up_to e) x
     unseen (row j w) q = lt-leb j e (omega arith)

@@ -69,7 +69,8 @@ areas-facts ps n h = record {
         (All_get_d (λ x. ltb x areas_max ≡ true) 0 (areas_of ps)
         (All-all_of (λ x. ltb x areas_max) (areas_of ps) (and_left a (distinct (areas_of ps)) h)) i (omega arith))
 
-    once : (i j : ℕ) → i < suc partitions_max → j < suc partitions_max → get_or (areas_of ps) i 0 ≡ get_or (areas_of ps) j 0
+    once : (i j : ℕ) → i < suc partitions_max → j < suc partitions_max → get_or (areas_of ps) i 0
+        ≡ get_or (areas_of ps) j 0
         → i ≡ j
     once i j l m e = let g = len in distinct_get_d 0 (areas_of ps) (and_right a (distinct (areas_of ps)) h) i j
         (omega arith) (omega arith) e
@@ -87,7 +88,8 @@ areas-ok ps n ok = let len = areas_of-length ps ∙ ap suc n in
     below zero l = ok.spare-inside
     below (suc p) l = rw (areas_of_get_d ps p) (ok.inside p (omega arith))
 
-    once : (i j : ℕ) → i < suc partitions_max → j < suc partitions_max → get_or (areas_of ps) i 0 ≡ get_or (areas_of ps) j 0
+    once : (i j : ℕ) → i < suc partitions_max → j < suc partitions_max → get_or (areas_of ps) i 0
+        ≡ get_or (areas_of ps) j 0
         → i ≡ j
     once zero zero l m e = refl
     once zero (suc q) l m e = absurd (ok.spare-apart q (omega arith) (sym (areas_of_get_d ps q) ∙ sym e))

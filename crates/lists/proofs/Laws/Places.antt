@@ -11,7 +11,8 @@ use native.Mathlib.Numerals.{add-one}
 use native.Mathlib.Omega.{arith}
 use lib.ListN.{length, take, drop, get_or, set, replicate, length-append, length-replicate, length-take, length-set}
 use lib.ListN.{length-drop, length-map, drop_of_length-le, take-append-drop, get_or-replicate}
-use lib.Seq.{drop-cons, take_all, take-suc, set-append_seam, set-append_left, set_at, get_or-take, get_or-drop, ext_get_or}
+use lib.Seq.{drop-cons, take_all, take-suc, set-append_seam, set-append_left, set_at, get_or-take, get_or-drop}
+use lib.Seq.{ext_get_or}
 use lib.Seq.{length-take-le}
 use lib.Dec.{leb}
 use borrow.Author.Tests.{leb-true, leb-false}

@@ -29,7 +29,8 @@ use Rattle.laws.proofs.Laws.SpansTest.{entries-ok}
 use Rattle.laws.proofs.Laws.WellFormed.{StoreOk}
 use Rattle.lent.specs.Entries.{none, moved_end}
 use Rattle.partition.specs.Rows.{put_rows}
-use Rattle.partition.specs.Append.{in_range, full_if, stays, grows, last_of, kept_in, append_at, append_plan, clear_plan}
+use Rattle.partition.specs.Append.{in_range, full_if, stays, grows, last_of, kept_in, append_at, append_plan}
+use Rattle.partition.specs.Append.{clear_plan}
 use Rattle.partition.specs.Append.{placed, written_by}
 use Rattle.partition.specs.declared.Plan.{Plan}
 use Rattle.partition.proofs.Laws.Rows.{put_rows-fits, put_rows-none}
@@ -222,7 +223,8 @@ module _ (st : Store) (ok : StoreOk st) (p : ℕ) (h : p < partitions_max) (i : 
       let o = rw k.entries-are at (entries-ok (manager_of st) (spans_at p st) k.spans-ok) in
       let e : get_or es j none ≡ get_or st.entries (b + j) none =
       get_or-take q.entries (drop b st.entries) j none f ∙ get_or-drop b st.entries j none in
-      let t = All_get_d (λ x. entry_ok (manager_of st) x ≡ true) none es (All-all_of (entry_ok (manager_of st)) es o.each)
+      let t = All_get_d (λ x. entry_ok (manager_of st) x ≡ true) none es
+      (All-all_of (entry_ok (manager_of st)) es o.each)
       j (omega arith) in
       rw (← e) (leb-true (get_or es j none).mark 1 (and_left (leb (get_or es j none).mark 1) _ t))
 

@@ -27,7 +27,8 @@ module _ {A : Type 0} where
   eight [] d h = absurd (omega arith)
 
 -- the test, from what was found of a list of the areas
-pub areas_ok-is : (ps : Partitions) (xs : List ℕ) (below once : Bool) → xs ≡ areas_of ps → below ≡ all_below areas_max xs
+pub areas_ok-is : (ps : Partitions) (xs : List ℕ) (below once : Bool) → xs ≡ areas_of ps → below
+    ≡ all_below areas_max xs
     → once ≡ distinct xs → areas_ok ps ≡ below && once
 unfolding areas_ok
 areas_ok-is ps xs below once e f g = rw (f, g, e)

@@ -88,7 +88,8 @@ module _ (st : Store) (ok : SoundOk st) (eight : length st.state.partitions.at �
         split-eq p k
         (λ e. rw (e, lt-ltb k (suc k) (omega arith)) (get_or-set_same ts k _ 0 (omega arith)
         ∙ (ap (lands_to k) (at-k ∙ rw (le-ltb k k (omega arith))) ∙ lands-to k (omega arith))))
-        (λ ne. get_or-set_other ts k p _ 0 ne ∙ (below k (omega arith) p q ∙ ap (λ b. cond b (next p) (get_or st.state.totals p 0)) (same ne)))
+        (λ ne. get_or-set_other ts k p _ 0 ne ∙ (below k (omega arith) p q
+        ∙ ap (λ b. cond b (next p) (get_or st.state.totals p 0)) (same ne)))
       where
         beyond : k ≤ p → (p ≡ k → ⊥) → suc k ≤ p
         beyond g ne = split (leb (suc k) p) (λ t. leb-true (suc k) p t)

@@ -280,7 +280,8 @@ module _ (es : List Entry) (rows : List ℕ) (a : Asked) where
   rest-found eight = split (begins (length es) (length rows) a.partitions)
       (λ t. let l = and_left (lengths_are (length es) (length rows)) (areas_ok a.partitions) t in
       let r = and_right (lengths_are (length es) (length rows)) (areas_ok a.partitions) t in
-      let lr = eqb-true (length rows) (rows_max * areas_max) (and_left (eqb (length rows) (rows_max * areas_max)) _ l) in
+      let lr = eqb-true (length rows) (rows_max * areas_max) (and_left (eqb (length rows) (rows_max * areas_max)) _ l)
+      in
       let le = eqb-true (length es) (entries_max * areas_max) (and_right (eqb (length rows) (rows_max * areas_max)) _
       l) in
       rw t (all-good le lr eight (areas-facts a.partitions eight r).inside))
@@ -295,8 +296,10 @@ module _ (es : List Entry) (rows : List ℕ) (a : Asked) where
       let ps = a.partitions in let x = lengths_are (length es) (length rows) in let z = all_of ok_by ps.at in
       let xyz = and_left (x && areas_ok ps && z) (totals_are a.totals a.lce es rows ps) t in
       let xy = and_left (x && areas_ok ps) z xyz in let l = and_left x (areas_ok ps) xy in
-      let lr = eqb-true (length rows) (rows_max * areas_max) (and_left (eqb (length rows) (rows_max * areas_max)) _ l) in
-      let le = eqb-true (length es) (entries_max * areas_max) (and_right (eqb (length rows) (rows_max * areas_max)) _ l) in
+      let lr = eqb-true (length rows) (rows_max * areas_max) (and_left (eqb (length rows) (rows_max * areas_max)) _ l)
+      in
+      let le = eqb-true (length es) (entries_max * areas_max)
+      (and_right (eqb (length rows) (rows_max * areas_max)) _ l) in
       let i = (areas-facts ps eight (and_right x (areas_ok ps) xy)).inside p k in
       let o = All_get_d (λ q. ok_by q ≡ true) no_partition ps.at (All-all_of ok_by ps.at (and_right (x && areas_ok ps)
       z xyz)) p (omega (arith, eight, k)) in
@@ -307,7 +310,8 @@ module _ (es : List Entry) (rows : List ℕ) (a : Asked) where
       → let q = place p in let own = part (entries_max * q.area) q.entries es in
       let newest = foldl (top_turn a.lands) no_top own in
       Lies es rows q × (newest_at es rows a q ≡ newest)
-      × (tally_at es rows a q ≡ foldl (tally_turn rows (cuts_of q (reach_of a) (foldl (top_turn (reach_of a)) no_top own)
+      × (tally_at es rows a q ≡ foldl (tally_turn rows (cuts_of q (reach_of a)
+      (foldl (top_turn (reach_of a)) no_top own)
       a.lands newest)) no_tally own)
   rest-each eight t p k = let f = rest-well eight t p k in let q = place p in (
     lies f.0 f.1 q f.2 f.3,

@@ -33,7 +33,8 @@ pub record Parts (c : Clock) (js : List ℕ) (es : List Entry) (q : Partition) :
   pub ends : ends_ok q.rows 0 (part (entries_max * q.area) q.entries es) ≡ true
   pub low : All (λ e. 1 ≤ e.epoch) (part (entries_max * q.area) q.entries es)
 
-pub parts-of : (c : Clock) (js : List ℕ) (es : List Entry) (q : Partition) → partition_ok_by c js es q ≡ true → Parts c js
+pub parts-of : (c : Clock) (js : List ℕ) (es : List Entry) (q : Partition) → partition_ok_by c js es q ≡ true
+    → Parts c js
     es q
 unfolding partition_ok_by epoch_ok_by
 parts-of c js es q h =

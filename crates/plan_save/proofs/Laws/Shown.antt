@@ -160,7 +160,8 @@ module _ (st : Store) (ok : StoreOk st) (v : Verdict) (e : ℕ) (whole : WholeSh
     laid-lot = let x : Laid = record { pending = first_of p; words = runs p } in
         ap (λ x. x.words) (sought-turned p h (laid_turn (cut p)) x (λ t d g m k. over_last (cut p) x d g
         (λ n. whole-shows p h t n d m) (λ n. whole-shows p h t n g k)))
-        ∙ ap (λ s. (foldl (laid_turn (cut p)) (record { pending = s; words = runs p }) (entries_at p st)).words) first-is
+        ∙ ap (λ s. (foldl (laid_turn (cut p)) (record { pending = s; words = runs p }) (entries_at p st)).words)
+        first-is
 
     lays-lot : Lays (runs_max * p) start (foldl (laid_turn (cut p)) start (entries_at p st))
         (joined (cut p) 0 0 (entries_at p st))

@@ -19,7 +19,8 @@ run_in w = record { from = from_in w; end = end_in w }
 
 module _ (ws : List ℕ) (i : ℕ) (h : i < length ws) where
   -- a word with rows
-  pub runs-next : 1 ≤ width_in (get_or ws i 0) → runs_in (drop i ws) ≡ run_in (get_or ws i 0) ∷ runs_in (drop (i + 1) ws)
+  pub runs-next : 1 ≤ width_in (get_or ws i 0) → runs_in (drop i ws)
+      ≡ run_in (get_or ws i 0) ∷ runs_in (drop (i + 1) ws)
   unfolding runs_in
   runs-next k = rw (from_next ws 0 i h, lt-ltb (from_in (get_or ws i 0)) (end_in (get_or ws i 0)) (omega arith))
 

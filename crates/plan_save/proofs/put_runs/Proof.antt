@@ -50,7 +50,8 @@ loop-again c = let p = c.before.before.put_rows-at.ensures in
     let f = c.before.before.before.before.from_in-from.ensures in
     let k = c.before.before.before.before.before.before.width_in-k.ensures in
     let l = c.before.before.before.before.before.before.before.before.before.loop-i in
-    let a = c.before.before.before.before.before.before.before.before.before.before.before.before.before.before.args in (
+    let a = c.before.before.before.before.before.before.before.before.before.before.before.before.before.before.args
+    in (
       omega arith,
       l.invariant.1,
       search rules,

@@ -23,7 +23,8 @@ use Rattle.rules.specs.Begin.{created_manager}
 use Rattle.rules.specs.Span.{entries_of, words_of}
 use Rattle.rules.specs.Weight.{weight, weight_by, total}
 use Rattle.rules.specs.Checkpoint.{Checkpoint, numbers_in, body_size, saved_in}
-use Rattle.rules.specs.Store.{Store, manager_of, no_partition, spans_at, state_of, with_totals, total_at, totals_of, refreshed}
+use Rattle.rules.specs.Store.{Store, manager_of, no_partition, spans_at, state_of, with_totals, total_at, totals_of}
+use Rattle.rules.specs.Store.{refreshed}
 use Rattle.rules.specs.Store.{fresh_partitions, created_store, laid, laid_in_place}
 use Rattle.rules.specs.WellFormed.{lengths_ok}
 use Rattle.rules.specs.Recovery.{recovered_spans, recovered_below, recovered_store, recover_answer}
@@ -49,7 +50,8 @@ use Rattle.checkpoint.specs.Rows.{has_room, rows_read, weight_read}
 use Rattle.checkpoint.specs.declared.Header.{Header}
 use Rattle.checkpoint.proofs.Laws.Header.{Whole, header-whole, header-corrupt, header_checkpoint}
 use Rattle.store.specs.Kept.{store_of, Left}
-use Rattle.recovery.specs.Restore.{refused_restore, body_of, bodies_for, weights_for, restored_from, restored_by, new_of}
+use Rattle.recovery.specs.Restore.{refused_restore, body_of, bodies_for, weights_for, restored_from, restored_by}
+use Rattle.recovery.specs.Restore.{new_of}
 use Rattle.recovery.specs.Restore.{place_of, rows_restored, entries_for, partition_for, partitions_for, done_restore}
 use Rattle.recovery.specs.declared.Restored.{Restored}
 use Rattle.recovery.proofs.Laws.Bodies.{body-next, body_end, rows_at}
@@ -239,7 +241,8 @@ module _ (file : List ℕ) (h : Header) (W : Whole last_epoch file h) where
     below : (n : ℕ) → n ≤ partitions_max → recovered_below c n st ≡ below_store n
     unfolding recovered_below created_store rows_restored saved
     below zero l = refl
-    below (suc n) l = ap (laid_in_place n (recovered_spans e (ws n))) (below n (omega arith)) ∙ laid_next n (omega arith)
+    below (suc n) l = ap (laid_in_place n (recovered_spans e (ws n))) (below n (omega arith))
+        ∙ laid_next n (omega arith)
 
     -- ---- the totals, and the whole
 

@@ -29,7 +29,8 @@ use Rattle.dispatch.proofs.Nothing.{purge-none}
 use Rattle.session_line.specs.Session.{bits}
 use Rattle.session_line.specs.Rooms.{numbers_max, answer_max}
 use Rattle.replay.specs.Lines.{lines_in}
-use Rattle.session_line.specs.Turn.{room_for, cursor_at, cursor_after, line_at, parsed_in, words_in, command_in, rows_in}
+use Rattle.session_line.specs.Turn.{room_for, cursor_at, cursor_after, line_at, parsed_in, words_in, command_in}
+use Rattle.session_line.specs.Turn.{rows_in}
 use Rattle.session_line.specs.Turn.{said_in, shown_of}
 use Rattle.session_line.specs.declared.turn.Cursor.{Cursor}
 use Rattle.replay.proofs.Laws.Line.{Said, line-called, line-bad}

@@ -153,7 +153,8 @@ printed-few c a shown h = scan-or (λ c. length (printed c a shown) ≤ answer_m
     (λ r p. fits (letter_of (Scan r p)) shown h)
     (λ c o. rw (o _ _ _) (fits (letter_of c) (reply_of a).values (omega (arith, values-few a)))) c
   where
-    fits : (letter : ℕ) (vs : List ℕ) → length vs ≤ rows_max → length (line_of letter (reply_of a).number vs) ≤ answer_max
+    fits : (letter : ℕ) (vs : List ℕ) → length vs ≤ rows_max
+        → length (line_of letter (reply_of a).number vs) ≤ answer_max
     fits letter vs g = let n = (reply_of a).number in
         omega (arith, length-line letter n vs, decimal-few n, spaced-few vs)
 

@@ -23,7 +23,8 @@ after_is_lem line Bad calls st = refl
 pub lines-run : (lines : List (List ℕ)) (st : Store) → after_lines lines st ≡ run (gather calls_of lines) st
 unfolding after_lines run after_line calls_of
 lines-run [] st = refl
-lines-run (l ∷ ls) st = lines-run ls (after_is l (parsed l) st) ∙ sym (after_is_lem l (parsed l) (gather calls_of ls) st)
+lines-run (l ∷ ls) st = lines-run ls (after_is l (parsed l) st)
+    ∙ sym (after_is_lem l (parsed l) (gather calls_of ls) st)
 
 -- ---- lines one after the other
 

@@ -130,7 +130,8 @@ others = 0 ∷ 1 ∷ 2 ∷ 3 ∷ 4 ∷ 6 ∷ 7 ∷ 8 ∷ []
 
 no-scan : (c : Command) (a : Answer) (ps : Partitions) (bitmap rows ws : List ℕ)
     → OneOf others (tag_of the_type c)
-    → (line_of (letter_of c) (reply_of a).number (reply_of a).values ≡ printed c a ws) × (shown_in c a ps bitmap rows ≡ [])
+    → (line_of (letter_of c) (reply_of a).number (reply_of a).values ≡ printed c a ws)
+    × (shown_in c a ps bitmap rows ≡ [])
 unfolding printed
 no-scan c a ps bitmap rows ws = scan-or
     (λ c. OneOf others (tag_of the_type c)

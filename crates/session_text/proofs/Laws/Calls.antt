@@ -89,7 +89,8 @@ module _ (letter who : ℕ) (bs buffer : List ℕ) where
 
     kind : is_call (call_by letter who n 0 0) ≡ is_call (call_on letter who (numbers_of bs))
     kind = let ns = numbers_of bs in rw count
-        (call_same letter who (length ns) 0 0 (get_or ns 0 0) (get_or ns 1 0) ∙ ap is_call (call-numbers letter who ns some))
+        (call_same letter who (length ns) 0 0 (get_or ns 0 0) (get_or ns 1 0)
+        ∙ ap is_call (call-numbers letter who ns some))
 
     pub other_letter : is_call (call_by letter who n 0 0) ≡ false
         → Bad ≡ in_room (numbers_of bs) buffer (numbers_call letter who bs)
@@ -188,7 +189,8 @@ unblank-line line f h n = fit_line line f ∙ no-blank line h n
 
 pub whole-line : (line buffer w : List ℕ) (r : Parsed) (from : ℕ)
     → length line ≤ line_max → 3 ≤ length line → get_or line 1 0 ≡ 32 → from ≡ from_of (get_or line 0 0)
-    → r ≡ in_room (numbers_of (drop from line)) buffer (numbers_call (get_or line 0 0) (get_or line 2 0) (drop from line))
+    → r ≡ in_room (numbers_of (drop from line)) buffer (numbers_call (get_or line 0 0) (get_or line 2 0)
+    (drop from line))
     → w ≡ if_call r (numbers_of (drop from line)) buffer
     → (r ≡ in_room (numbers_in line) buffer (parsed line)) × (w ≡ if_call r (numbers_in line) buffer)
 whole-line line buffer w r from f h e s p q =

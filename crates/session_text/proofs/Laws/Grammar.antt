@@ -1,5 +1,6 @@
 -- The words and numbers of a line, byte by byte. Definitions: specs/Grammar.antt.
--- In order: the first word and the others; what is left of a line after a value so far: whether it is numbers (ok_from),
+-- In order: the first word and the others; what is left of a line after a value so far: whether it is numbers
+-- (ok_from),
 -- their values (values_from), how many blanks; one byte more of each; a line that is numbers.
 -- Assumes nothing.
 use mathlib.Core.Path.{◌≡◌, refl, sym, ◌∙◌, ap}
@@ -122,7 +123,8 @@ unfolding ok_from value_of
 ok-digit true v b bs h = rw (words-other b bs (digit-other b h), h)
 ok-digit false v b bs h = rw (words-other b bs (digit-other b h), lt-ltb 0 (suc (length (first bs))) (omega arith), h)
 
-pub ok-other : (some : Bool) (v b : ℕ) (bs : List ℕ) → (b ≡ 32 → ⊥) → is_digit b ≡ false → ok_from some v (b ∷ bs) ≡ false
+pub ok-other : (some : Bool) (v b : ℕ) (bs : List ℕ) → (b ≡ 32 → ⊥) → is_digit b ≡ false → ok_from some v (b ∷ bs)
+    ≡ false
 unfolding ok_from
 ok-other true v b bs n h = rw (words-other b bs n, h)
 ok-other false v b bs n h = rw (words-other b bs n, lt-ltb 0 (suc (length (first bs))) (omega arith), h)

@@ -37,7 +37,8 @@ returns_4 : tie.Need-returns
 returns_4 c = let r = c.before.before.parse_numbers in let f = c.before.before.before.before.before in
     let t = f.before.before in let e = t.before.before in let a = e.before.before.before.before.args in
     whole-line a.line.now a.numbers.now r.new.numbers r.result f.from_of-from.result
-    e.before.if-line-gt-LINE_MAX.false e.if-line-lt3.false t.if-line-ne32.false f.from_of-from.ensures r.ensures.0 r.ensures.1
+    e.before.if-line-gt-LINE_MAX.false e.if-line-lt3.false t.if-line-ne32.false f.from_of-from.ensures r.ensures.0
+    r.ensures.1
 
 pub parse_spec : {M : Type 1} → statement M
 parse_spec =

@@ -17,7 +17,8 @@ returns c = no_room question c.before.args.out.now c.if-out-lt2.true
 returns_2 : tie.Need-returns
 returns_2 c = let l = c.before.args.out.now in
     room question l 2 (set (set l 0 63) 1 10) c.if-out-lt2.false refl
-    (sym (over-cons 0 63 (10 ∷ []) l c.if-out-lt2.false ∙ over-one 1 10 (set l 0 63) (simp length-set c.if-out-lt2.false)))
+    (sym (over-cons 0 63 (10 ∷ []) l c.if-out-lt2.false ∙ over-one 1 10 (set l 0 63)
+    (simp length-set c.if-out-lt2.false)))
 
 pub print_question_spec : {M : Type 1} → statement M
 print_question_spec =

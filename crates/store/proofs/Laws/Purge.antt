@@ -17,7 +17,8 @@ use Rattle.rules.specs.Manager.{manager_in}
 use Rattle.rules.specs.Limits.{partitions_max, areas_max, rows_max, entries_max}
 use Rattle.rules.specs.Span.{Span, spans, entries_of, words_of}
 use Rattle.rules.specs.Rewrite.{purged_in, purged, skips}
-use Rattle.rules.specs.Store.{with_partitions_in, Store, entries_at, rows_at, spans_at, laid, laid_in_spare, purged_store}
+use Rattle.rules.specs.Store.{with_partitions_in, Store, entries_at, rows_at, spans_at, laid, laid_in_spare}
+use Rattle.rules.specs.Store.{purged_store}
 use Rattle.rules.specs.Answers.{accepted}
 use Rattle.rules.specs.WellFormed.{ends_ok, sound}
 use Rattle.rules.specs.Calls.{purge_answer}

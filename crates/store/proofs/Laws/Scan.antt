@@ -109,7 +109,8 @@ module _ (s : State) (es : List Entry) (rs : List ℕ) (ok : StoreOk (store_of s
       ones-are : (scanned v deps (area_at es (partition_of p s)) (partition_of p s).rows no_bits).ones
           ≡ ones (flags_at r p (store_of s rs es))
       ones-are = let q = partition_of p s in
-          ap (λ x. x.ones) (scanned-spans v deps (area_at es q) q.rows no_bits (rows_at p (store_of s rs es)) scans words)
+          ap (λ x. x.ones) (scanned-spans v deps (area_at es q) q.rows no_bits (rows_at p (store_of s rs es)) scans
+          words)
           ∙ ap ones same_flags
 
       bits_are : bitmap_scanned v deps (area_at es (partition_of p s)) (partition_of p s).rows no_bits

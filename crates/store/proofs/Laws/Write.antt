@@ -88,7 +88,8 @@ module _ (s : State) (n : length s.partitions.at ≡ partitions_max) where
               at = set_out s.partitions.at partitions_max no_partition (omega arith) j;
               spare = s.partitions.spare;
             }) s)
-            (put-past bs rs j) ((ap (λ (xs : List Entry). moved_end xs (length es) 0) e ∙ unmoved es (length es) 0 refl) j),
+            (put-past bs rs j) ((ap (λ (xs : List Entry). moved_end xs (length es) 0) e
+            ∙ unmoved es (length es) 0 refl) j),
       )
 
 -- ---- the entries that a plan puts

@@ -8,4 +8,5 @@ use Rattle.store.proofs.commit.Goals as goal
 pub returns : goal.returns
 returns c = let a = c.args in
     rw (c.commit_core.ensures, c.rest_of-r.ensures, c.ask_commit-a.ensures)
-    (manage_lands a.state (state_8 a.state _ c.well_formed.0) (totals_8 a.state _ c.well_formed.0) a.entries.now a.rows.now (Commit a.txn))
+    (manage_lands a.state (state_8 a.state _ c.well_formed.0) (totals_8 a.state _ c.well_formed.0) a.entries.now
+    a.rows.now (Commit a.txn))

@@ -6,5 +6,13 @@ use Rattle.store.proofs.purge.Goals as goal
 
 pub returns : goal.returns
 returns c = let a = c.args in
-    rw (c.purge_done.ensures, c.purge_rows.ensures, c.put_purge.ensures, c.purge_core-w.ensures, c.load-lot.ensures, c.rest_ok-rest.ensures, c.ask-a.ensures)
+    rw (
+      c.purge_done.ensures,
+      c.purge_rows.ensures,
+      c.put_purge.ensures,
+      c.purge_core-w.ensures,
+      c.load-lot.ensures,
+      c.rest_ok-rest.ensures,
+      c.ask-a.ensures,
+    )
     (purge-left a.state (state_8 a.state _ c.well_formed.0) a.entries.now a.rows.now a.p)

@@ -6,5 +6,12 @@ use Rattle.store.proofs.scan_rw.Goals as goal
 
 pub returns : goal.returns
 returns c = let a = c.args in
-    rw (c.look_done.ensures, c.write_bits.ensures, c.rw_core-w.ensures, c.load-lot.ensures, c.rest_ok-rest.ensures, c.ask-a.ensures)
+    rw (
+      c.look_done.ensures,
+      c.write_bits.ensures,
+      c.rw_core-w.ensures,
+      c.load-lot.ensures,
+      c.rest_ok-rest.ensures,
+      c.ask-a.ensures,
+    )
     (rw-left a.state (state_8 a.state _ c.well_formed.0) a.entries.now a.rows.now a.bitmap.now a.i a.p)

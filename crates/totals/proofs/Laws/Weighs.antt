@@ -138,7 +138,8 @@ module _ (r : Reach) (rs : List ℕ) (base n : ℕ) (few : n ≤ rows_max) (all 
       (λ a. rw a (split (shows (cut_of r u base) k e.epoch) (λ b. rw b) (λ b. rw b)))))
 
   shown-rows : (k : ℕ) (es : List Entry) (t : Top) → ends_ok n k es ≡ true → t.edge ≤ k → top_of r t es ≡ u
-      → shown_in (in_reach r) (in_reach r) all (spans k es (rows_from rs base k n)) ≡ shown_rows rs (cut_of r u base) k es
+      → shown_in (in_reach r) (in_reach r) all (spans k es (rows_from rs base k n))
+      ≡ shown_rows rs (cut_of r u base) k es
   unfolding spans shown_in shown_rows
   shown-rows k [] t h b q = refl
   shown-rows k (e ∷ es) t h b q =
@@ -205,7 +206,8 @@ module _ (r : Reach) (es : List Entry) (rs : List ℕ) (base n : ℕ) (few : n �
     other h k j l y = let g = above k j l y in rw (lt-leb j d.high (omega arith))
 
     pub weighs-more : d.high ≤ r.over
-        → (foldl (tally_turn rs (record { shown = d; lands = cut_of r u base })) no_tally es).more ≡ weight_by (in_reach r) ss
+        → (foldl (tally_turn rs (record { shown = d; lands = cut_of r u base })) no_tally es).more
+        ≡ weight_by (in_reach r) ss
     weighs-more h = more-sum rs (record { shown = d; lands = cut_of r u base }) n few fits (other h) es no_tally
         (omega arith) ok
         ∙ (zero-add (shown_sum rs (cut_of r u base) 0 es) ∙ sum-weighs)

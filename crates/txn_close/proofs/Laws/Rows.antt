@@ -87,7 +87,8 @@ module _ {ts : RwTxns} {ds : List ℕ} (T : Tidy ts ds) where
       let all = rows-wide ws (viewed-fit T) in let l = viewed-length T in
       let n = length-rows row_of deps_max ws all in let k = length-pad deps_max 0 w.deps f in
       let x = gather row_of ws in let few : deps_max * j + length (row_of w) ≤ length x = omega arith in
-      let s = set-rows row_of deps_max j w ws (omega arith) k all in let m = length_over (deps_max * j) (row_of w) x few in
+      let s = set-rows row_of deps_max j w ws (omega arith) k all in
+      let m = length_over (deps_max * j) (row_of w) x few in
       ap (over (deps_max * j) (row_of w)) T.table
       ∙ over-left (deps_max * j) (row_of w) x (replicate (deps_all - length x) 0) few
       ∙ rw (s, m)

@@ -11,7 +11,8 @@ use Rattle.lists.specs.Lists.{any_of, first_of, part}
 use Rattle.lists.proofs.Laws.Bools.{split, or-false-left, or-false_right}
 use Rattle.lists.proofs.Laws.Branches.{said}
 use Rattle.rules.specs.Limits.{writers_max, readers_max, deps_max}
-use Rattle.rules.specs.Manager.{no_writer, no_rw, no_ro, records_of, view, views, writers_of, readers_of, opens, has_ticket}
+use Rattle.rules.specs.Manager.{no_writer, no_rw, no_ro, records_of, view, views, writers_of, readers_of, opens}
+use Rattle.rules.specs.Manager.{has_ticket}
 use Rattle.rules.specs.declared.RoTxns.{RoTxns}
 use Rattle.rules.specs.declared.RwTxn.{RwTxn}
 use Rattle.rules.specs.declared.RwTxns.{RwTxns}

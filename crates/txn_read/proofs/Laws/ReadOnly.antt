@@ -48,7 +48,8 @@ ended_in s e = record {
 module _ (s : State) (z : Sized (manager_in s)) (rest : Bool) (yes : rest && manager_ok (manager_in s) ≡ true) (t : ℕ)
   where
     by-found : (r : Found) → r ≡ reader_at t s.readers
-        → ended_in s (ended_by r s.readers) ≡ kept_of (end_ro_answer t (rest && manager_ok (manager_in s)) (manager_in s))
+        → ended_in s (ended_by r s.readers) ≡ kept_of (end_ro_answer t (rest && manager_ok (manager_in s))
+        (manager_in s))
         (ended_ro_manager t (manager_in s)) s
     unfolding end_ro_answer
     by-found (At j) a = let m = manager_in s in
@@ -57,6 +58,7 @@ module _ (s : State) (z : Sized (manager_in s)) (rest : Bool) (yes : rest && man
     by-found Nothing a = rw (yes, (reader-none (manager_in s) t a refl).any)
 
     pub ended_is : ended_in s (ended_at t s.readers)
-        ≡ kept_of (end_ro_answer t (rest && manager_ok (manager_in s)) (manager_in s)) (ended_ro_manager t (manager_in s)) s
+        ≡ kept_of (end_ro_answer t (rest && manager_ok (manager_in s)) (manager_in s))
+        (ended_ro_manager t (manager_in s)) s
     unfolding ended_at
     ended_is = by-found (reader_at t s.readers) refl

@@ -72,7 +72,11 @@ returns_6 c =
     let w = c.before.before.before in let a = w.before.before in let b = a.before.before.before in
     let l = b.before.before.before in
     turn_stop l.before.loop-i.invariant.0 l.loop-i-test.true
-    (rw (lt-ltb _ _ b.if-t-lo.false, lt-ltb _ _ a.if-c-t.false, said-yes w.before.waits_ok.ensures w.if-not-waits_ok.false-raw)
+    (rw (
+      lt-ltb _ _ b.if-t-lo.false,
+      lt-ltb _ _ a.if-c-t.false,
+      said-yes w.before.waits_ok.ensures w.if-not-waits_ok.false-raw,
+    )
     (said-no (row-lent _ _ _ l.before.loop-i.i _ c.before.row_ok.ensures) c.if-not-row_ok.true-raw))
 
 loop-again : tie.Need-loop-i-preserved invariant_loop decreases_loop invariant_loop2 decreases_loop2
@@ -80,7 +84,11 @@ loop-again c =
     let r = c.before in let w = r.before.before.before in let a = w.before.before in
     let b = a.before.before.before in let l = b.before.before.before in (
       rw c.seen_open-seen.ensures (turn_on l.before.loop-i.invariant.0 l.loop-i-test.true
-          (rw (lt-ltb _ _ b.if-t-lo.false, lt-ltb _ _ a.if-c-t.false, said-yes w.before.waits_ok.ensures w.if-not-waits_ok.false-raw)
+          (rw (
+            lt-ltb _ _ b.if-t-lo.false,
+            lt-ltb _ _ a.if-c-t.false,
+            said-yes w.before.waits_ok.ensures w.if-not-waits_ok.false-raw,
+          )
           (said-yes (row-lent _ _ _ l.before.loop-i.i _ r.before.row_ok.ensures) r.if-not-row_ok.false-raw))),
       l.before.loop-i.invariant.1,
     )

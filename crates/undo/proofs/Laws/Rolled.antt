@@ -63,7 +63,8 @@ module _ (st : Store) (ok : StoreOk st) (p : ℕ) (h : p < partitions_max) where
 
     -- ---- rows
 
-    copied_is : rows_copied (area_in p (as_rolled st)) (plan_in i p (as_rolled st)) (rows_max * (partition_at p st).area)
+    copied_is : rows_copied (area_in p (as_rolled st)) (plan_in i p (as_rolled st))
+        (rows_max * (partition_at p st).area)
         (rows_max * st.state.partitions.spare) st.rows
         ≡ over (rows_max * st.state.partitions.spare) (words_of (rolled_back i (spans_at p st))) st.rows
     copied_is = rolled-copied (area_in p (as_rolled st)) (partition_at p st).rows facts.rows_fit

@@ -61,7 +61,8 @@ end-of_requires c κs = let o = c.before in let w = whole o in
 returns_2 : tie.Need-returns-then-n-end invariant_loop decreases_loop
 returns_2 c = let o = c.before.before.before.before in let e = ended c.before.before in
     c.found.ensures
-    ∙ sought-cut (place o).loop-i.invariant.2 (whole o) (said-yes (judged o) c.before.before.before.if-not-header_ok.false-raw)
+    ∙ sought-cut (place o).loop-i.invariant.2 (whole o) (said-yes (judged o)
+    c.before.before.before.if-not-header_ok.false-raw)
     (omega (arith, c.before.if-n-end.true))
 
 loop-less : tie.Need-loop-i-smaller invariant_loop decreases_loop

@@ -28,7 +28,8 @@ loop-holds : tie.Need-loop-k-init invariant_loop decreases_loop
 loop-holds c = (omega arith, good_length (e_int w64) 8 c.args.counts _ c.well_formed.0, omega arith, omega arith)
 
 -- the count that is added
-small : (c : tie.In-loop-k invariant_loop decreases_loop) → get_or c.before.before.args.counts c.before.loop-k.k 0 ≤ rows_max
+small : (c : tie.In-loop-k invariant_loop decreases_loop) → get_or c.before.before.args.counts c.before.loop-k.k 0 ≤
+    rows_max
 small c = let s = c.before.before in let l = c.before.loop-k in
     leb-true _ _ (all-at (λ n. leb n rows_max) s.args.counts 0 s.requires l.k (omega arith))
 

@@ -24,6 +24,9 @@ weigh_spec =
     (λ c. rw (lt-leb _ _ c.if-count-gt-ROWS_MAX.true))
     (λ c. search rules)
     (λ c κs. search rules)
-    (λ c. rw (le-leb _ _ c.before.before.if-count-gt-ROWS_MAX.false, said-no c.before.has_room.ensures c.if-not-has_room.true-raw))
+    (λ c. rw (
+      le-leb _ _ c.before.before.if-count-gt-ROWS_MAX.false,
+      said-no c.before.has_room.ensures c.if-not-has_room.true-raw,
+    ))
     (λ c κs. (c.before.before.if-count-gt-ROWS_MAX.false, leb-true _ _ (there c)))
     (λ c. rw (le-leb _ _ c.before.before.before.if-count-gt-ROWS_MAX.false, there c.before) c.sum.ensures))

@@ -36,7 +36,8 @@ returns c = let f = said-no c.before.has_room.ensures c.if-not-has_room.true-raw
 
 returns_2 : tie.Need-returns-then-not-has_room-2
 unfolding rows_put after_rows
-returns_2 c = let t = there c.before.before in let f = said-no c.before.has_room-2.ensures c.if-not-has_room-2.true-raw in
+returns_2 c = let t = there c.before.before in let f = said-no c.before.has_room-2.ensures
+    c.if-not-has_room-2.true-raw in
     (rw (t, f), rw (t, f))
 
 -- the rows ahead and then the rest are all of them

@@ -17,7 +17,8 @@ passed c = sym c.before.in_range.ensures ∙ not-false _ c.if-not-in_range.false
 
 returns : tie.Need-returns-then-not-in_range
 returns c = c.stay.ensures
-    ∙ sym (append_plan-out _ _ _ _ (sym c.before.before.in_range.ensures ∙ not-true _ c.before.if-not-in_range.true-raw))
+    ∙ sym (append_plan-out _ _ _ _ (sym c.before.before.in_range.ensures
+    ∙ not-true _ c.before.if-not-in_range.true-raw))
 
 returns_2 : tie.Need-returns-then-k-eq0
 returns_2 c = c.stay-then-k-eq0.ensures ∙ sym (append_plan-none _ _ _ _ (passed c.before.before) c.before.if-k-eq0.true)

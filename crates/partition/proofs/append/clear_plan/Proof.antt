@@ -19,7 +19,8 @@ returns c = c.stay.ensures
     ∙ sym (clear_plan-out _ _ (sym c.before.before.in_range.ensures ∙ not-true _ c.before.if-not-in_range.true-raw))
 
 returns_2 : tie.Need-returns-then-q-ge-ENTRIES_MAX
-returns_2 c = c.stay-then-q-ge-ENTRIES_MAX.ensures ∙ sym (clear_plan-full _ _ (passed c.before.before.before) (omega arith))
+returns_2 c = c.stay-then-q-ge-ENTRIES_MAX.ensures ∙ sym (clear_plan-full _ _ (passed c.before.before.before)
+    (omega arith))
 
 place_requires : tie.Need-place-requires
 place_requires c κs = let w = within _ (passed c.before.before) in omega arith

@@ -15,7 +15,10 @@ returns_2 c = rw (lt-ltb _ _ c.before.before.if-q-ge-AREAS_MAX.false, lt-leb _ _
 
 returns_3 : tie.Need-returns
 unfolding in_range
-returns_3 c = let b = c.before in rw (lt-ltb _ _ b.before.before.if-q-ge-AREAS_MAX.false, le-leb _ _ b.if-q-gt-ROWS_MAX.false)
+returns_3 c = let b = c.before in rw (
+  lt-ltb _ _ b.before.before.if-q-ge-AREAS_MAX.false,
+  le-leb _ _ b.if-q-gt-ROWS_MAX.false,
+)
 
 pub in_range_spec : {M : Type 1} → statement M
 in_range_spec = tie.close (tie.spec returns

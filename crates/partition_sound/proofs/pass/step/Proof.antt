@@ -20,7 +20,11 @@ step_spec =
     (λ c. c.bad-then-c-j.ensures ∙ search tests)
     (λ c κs. search rules)
     (λ c κs. search rules)
-    (λ c. c.bad-then-not-is_found.ensures ∙ search (tests, said-no c.before.before.is_found.ensures c.before.if-not-is_found.true-raw))
+    (λ c. c.bad-then-not-is_found.ensures ∙ search (
+      tests,
+      said-no c.before.before.is_found.ensures
+          c.before.if-not-is_found.true-raw,
+    ))
     (λ c κs. search rules)
     (λ c. c.follow-2.ensures ∙ search (
       tests,

@@ -1,5 +1,7 @@
--- `plan_save::runs::runs_of` meets its contract. A turn of the outer loop finds where partition p lies, from where on it
--- is gone over, and its greatest clearing; one of the inner takes the entry at i to the pending run, and stores the word
+-- `plan_save::runs::runs_of` meets its contract. A turn of the outer loop finds where partition p lies, from where on
+-- it
+-- is gone over, and its greatest clearing; one of the inner takes the entry at i to the pending run, and stores the
+-- word
 -- of that at its place.
 -- Assumes nothing.
 use Rattle.std.proofs.Common.{◌≡◌, ◌+◌, ◌-◌, ◌<◌, refl, ap, suc, add-one, arith, ltb-true}

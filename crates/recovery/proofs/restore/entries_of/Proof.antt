@@ -18,7 +18,8 @@ abbrev entry_of : Restored → ℕ → Entry
 entry_of w p = record { epoch = w.epoch; end = get_or w.counts p 0; mark = 0 }
 
 abbrev invariant_loop : tie.invariant-loop-p
-invariant_loop w new₀ p₀ new p = (p ≤ partitions_max) × (length w.counts ≡ partitions_max) × Filled none (entry_of w) new p
+invariant_loop w new₀ p₀ new p = (p ≤ partitions_max) × (length w.counts ≡ partitions_max)
+    × Filled none (entry_of w) new p
 
 abbrev decreases_loop : tie.decreases-loop-p
 decreases_loop w new₀ p₀ new p = partitions_max - p

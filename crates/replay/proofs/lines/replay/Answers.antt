@@ -1,4 +1,5 @@
--- `replay::lines::replay` meets its contract: a turn answers the line at the cursor (Laws/Turn.antt, inv-next), and where
+-- `replay::lines::replay` meets its contract: a turn answers the line at the cursor (Laws/Turn.antt, inv-next), and
+-- where
 -- the cursor finds none all is answered that there is room for.
 -- Assumes nothing.
 use Rattle.std.proofs.Common.{◌∙◌, sym, ◌-◌, ◌<◌, length}

@@ -85,7 +85,8 @@ add-copy-run_2 : tie.Need-overflow_add-to invariant_loop decreases_loop
 add-copy-run_2 c = let r = (run c.before).dst_in in search rules
 
 copy-run_requires : tie.Need-copy_run-requires invariant_loop decreases_loop
-copy-run_requires c κs = let r = run c.before in let k = c.before.before.before.before in let h = k.before.loop-k.invariant.3 in
+copy-run_requires c κs = let r = run c.before in let k = c.before.before.before.before in
+    let h = k.before.loop-k.invariant.3 in
     (omega (arith, r.src_in), omega (arith, r.dst_in), r.apart)
 
 add_done : tie.Need-overflow_add-done invariant_loop decreases_loop

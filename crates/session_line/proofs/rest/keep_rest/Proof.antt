@@ -39,7 +39,8 @@ loop-less : tie.Need-loop-i-smaller invariant_loop decreases_loop
 loop-less c = let h = c.before.loop-i-test.true in omega arith
 
 loop-again : tie.Need-loop-i-preserved invariant_loop decreases_loop
-loop-again c = let l = c.before.before.loop-i in let a = c.before.before.before.before.before.before.before.before.args in
+loop-again c = let l = c.before.before.loop-i in
+    let a = c.before.before.before.before.before.before.before.before.args in
     let h = c.before.loop-i-test.true in let x = get_or l.buffer (a.from + l.i) 0 in (
       omega arith,
       l.invariant.1,

@@ -18,7 +18,8 @@ returns_2 c = let e = c.before.before in let line = e.before.before.args.line.no
 
 returns_3 : tie.Need-returns
 returns_3 c = let e = c.before.before.before in let line = e.before.before.args.line.now in
-    c.bare.ensures ∙ (rw (eq-eqb (get_or line 0 0) 66 c.before.if-line-ne66.false) at (one_byte line e.if-line-ne1.false))
+    c.bare.ensures ∙ (rw (eq-eqb (get_or line 0 0) 66 c.before.if-line-ne66.false) at
+    (one_byte line e.if-line-ne1.false))
 
 pub parse_letter_spec : {M : Type 1} → statement M
 parse_letter_spec =

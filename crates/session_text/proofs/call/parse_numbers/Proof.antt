@@ -33,7 +33,8 @@ are : (e : tie.Else-count-eq0) → are_numbers (Bytes e.before) ≡ true
 are e = let r = e.before.count_numbers-count in some-numbers (Bytes e.before) r.result r.ensures e.if-count-eq0.false
 
 counted : (e : tie.Else-count-eq0) → e.before.count_numbers-count.result ≡ length (numbers_of (Bytes e.before))
-counted e = let r = e.before.count_numbers-count in some-counted (Bytes e.before) r.result r.ensures e.if-count-eq0.false
+counted e = let r = e.before.count_numbers-count in some-counted (Bytes e.before) r.result r.ensures
+    e.if-count-eq0.false
 
 -- whether it is a call, by the letter and the count
 kind : (q : tie.After-is_call) → let k = q.before.before.before.before in let a = (S k).args in
@@ -51,7 +52,8 @@ returns_3 c = let q = c.before in let e = q.before.before.before in let k = e.be
   refl,
 )
 
-room : (o : tie.Else-numbers-count) → let k = o.before.before in length (numbers_of (Bytes k)) ≤ length (S k).args.numbers.now
+room : (o : tie.Else-numbers-count) → let k = o.before.before in
+    length (numbers_of (Bytes k)) ≤ length (S k).args.numbers.now
 room o = rw (counted o.before) at o.if-numbers-count.false
 
 put-numbers_requires : tie.Need-put_numbers-requires
@@ -60,11 +62,13 @@ put-numbers_requires c κs = let o = c.before.before.before.before in let k = o.
 
 returns_4 : tie.Need-returns
 returns_4 c = let w = c.before.before.before.put_numbers in
-    let j = c.before.before.before.before.before.before in let q = c.before.before.before.before.before.before in let o = q.before.before in
+    let j = c.before.before.before.before.before.before in let q = c.before.before.before.before.before.before in
+    let o = q.before.before in
     let e = o.before in let k = e.before in let a = (S k).args in
     call_line a.letter a.who (Bytes k) a.numbers.now k.count_numbers-count.result (are e) (counted e)
     c.call_with.result w.new.numbers (room o)
-    (sym (kind q) ∙ not-false q.is_call.result c.before.before.before.before.before.if-not-is_call.false-raw) w.ensures c.call_with.ensures
+    (sym (kind q) ∙ not-false q.is_call.result c.before.before.before.before.before.if-not-is_call.false-raw)
+    w.ensures c.call_with.ensures
 
 pub parse_numbers_spec : {M : Type 1} → statement M
 parse_numbers_spec =

@@ -25,7 +25,8 @@ add-count c = omega arith
 returns : tie.Need-returns-then-count-eq-DIGITS_MAX invariant_loop decreases_loop
 returns c =
     let l = c.before.before.loop-power in let a = c.before.before.before.args in
-    let e : l.count ≡ 19 = omega arith in let g : 10 ^ 19 ≤ a.n = rw e at (rw l.invariant.2 at c.before.loop-power-test.true) in
+    let e : l.count ≡ 19 = omega arith in let g : 10 ^ 19 ≤ a.n = rw e at
+    (rw l.invariant.2 at c.before.loop-power-test.true) in
     rw e (length-between 20 a.n (omega arith) (λ h. g) (omega arith) (omega arith))
 
 mul_power : tie.Need-overflow_mul-power invariant_loop decreases_loop

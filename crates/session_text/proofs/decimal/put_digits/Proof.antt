@@ -13,7 +13,8 @@ use Rattle.session_text.proofs.decimal.put_digits.Statement.{statement}
 use Rattle.session_text.proofs.decimal.put_digits.Tie as tie
 
 abbrev invariant_loop : tie.invariant-loop-rest
-invariant_loop n out₀ at count end₀ rest₀ out end rest = (rest < 2 ^ 64) × (length out ≡ length out₀) × (end ≤ length out)
+invariant_loop n out₀ at count end₀ rest₀ out end rest = (rest < 2 ^ 64) × (length out ≡ length out₀)
+    × (end ≤ length out)
     × (end ≡ at + length (decimal rest)) × (over at (decimal n) out₀ ≡ over at (decimal rest) out)
 
 abbrev decreases_loop : tie.decreases-loop-rest

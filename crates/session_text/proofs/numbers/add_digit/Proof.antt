@@ -25,11 +25,13 @@ returns_3 c = let w = c.before in let e = w.before in let s = e.before.before in
 
 mul_t7 : tie.Need-overflow_mul-result
 mul_t7 c = let w = c.before.before in let s = w.before.before.before in
-    let h = leb-false (2 ^ 64) (10 * s.args.p.value + (s.args.byte - 48)) (sym w.is_wide.ensures ∙ c.before.if-is_wide.false) in omega arith
+    let h = leb-false (2 ^ 64) (10 * s.args.p.value + (s.args.byte - 48))
+    (sym w.is_wide.ensures ∙ c.before.if-is_wide.false) in omega arith
 
 add_t8 : tie.Need-overflow_add-result
 add_t8 c = let w = c.before.before in let s = w.before.before.before in
-    let h = leb-false (2 ^ 64) (10 * s.args.p.value + (s.args.byte - 48)) (sym w.is_wide.ensures ∙ c.before.if-is_wide.false) in omega arith
+    let h = leb-false (2 ^ 64) (10 * s.args.p.value + (s.args.byte - 48))
+    (sym w.is_wide.ensures ∙ c.before.if-is_wide.false) in omega arith
 
 returns_4 : tie.Need-returns
 returns_4 c = let w = c.before.before in let e = w.before in let s = e.before.before in let b = s.args.byte in

@@ -46,7 +46,8 @@ Rest k = drop (suc (L k).loop-i.i) (S k).args.line.now
 here : (k : tie.After-step invariant_loop decreases_loop) → drop (L k).loop-i.i (S k).args.line.now ≡ Byte k ∷ Rest k
 here k = drop-cons (S k).args.line.now (L k).loop-i.i 0 k.before.before.loop-i-test.true
 
-says : (k : tie.After-step invariant_loop decreases_loop) (r : Next) → k.step.result ≡ r → Says (L k).loop-i.p (Byte k) (Rest k) r
+says : (k : tie.After-step invariant_loop decreases_loop) (r : Next) → k.step.result ≡ r
+    → Says (L k).loop-i.p (Byte k) (Rest k) r
 says k r e = rw (sym k.step.ensures ∙ e) at (step-says (L k).loop-i.p (Byte k) (Rest k) (L k).loop-i.invariant.2)
 
 returns : tie.Need-returns-in_default invariant_loop decreases_loop

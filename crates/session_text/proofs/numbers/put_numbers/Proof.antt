@@ -51,10 +51,12 @@ Byte k = get_or (Line k) (L k).loop-i.i 0
 abbrev Rest : tie.After-shared_slice_known-1 invariant_loop decreases_loop → List ℕ
 Rest k = drop (suc (L k).loop-i.i) (Line k)
 
-here : (k : tie.After-shared_slice_known-1 invariant_loop decreases_loop) → drop (L k).loop-i.i (Line k) ≡ Byte k ∷ Rest k
+here : (k : tie.After-shared_slice_known-1 invariant_loop decreases_loop) → drop (L k).loop-i.i (Line k)
+    ≡ Byte k ∷ Rest k
 here k = drop-cons (Line k) (L k).loop-i.i 0 k.before.loop-i-test.true
 
-ok-here : (k : tie.After-shared_slice_known-1 invariant_loop decreases_loop) → ok_from true (L k).loop-i.value (Byte k ∷ Rest k) ≡ true
+ok-here : (k : tie.After-shared_slice_known-1 invariant_loop decreases_loop)
+    → ok_from true (L k).loop-i.value (Byte k ∷ Rest k) ≡ true
 ok-here k = sym (ap (ok_from true (L k).loop-i.value) (here k)) ∙ (L k).loop-i.invariant.3
 
 mul-numbers : tie.Need-offset_bounds-numbers-k invariant_loop decreases_loop
@@ -80,7 +82,8 @@ ok-next : (c : tie.Else-byte-eq32 invariant_loop decreases_loop) → let k = c.b
 ok-next c = let k = c.before in
     sym (ok-digit true (L k).loop-i.value (Byte k) (Rest k) (digit c)) ∙ ok-here k
 
-value-fits : (c : tie.Else-byte-eq32 invariant_loop decreases_loop) → let k = c.before in grown_by (L k).loop-i.value (Byte k) < 2 ^ 64
+value-fits : (c : tie.Else-byte-eq32 invariant_loop decreases_loop) → let k = c.before in
+    grown_by (L k).loop-i.value (Byte k) < 2 ^ 64
 value-fits c = let k = c.before in ok-fits (grown_by (L k).loop-i.value (Byte k)) (Rest k) (ok-next c)
 
 mul_value : tie.Need-overflow_mul-value invariant_loop decreases_loop

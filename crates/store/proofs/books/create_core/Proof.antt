@@ -28,7 +28,12 @@ returns_3 c =
     let n = f.before in
     let s = n.before.before in
     let w = start-at s.before.args.a _ (sym n.new.ensures ∙ f.in-At.is) in
-    rw (sym s.lengths_ok.ensures ∙ not-false _ n.before.if-not-lengths_ok.false-raw, w.0, c.new_books-after.ensures, w.1)
+    rw (
+      sym s.lengths_ok.ensures ∙ not-false _ n.before.if-not-lengths_ok.false-raw,
+      w.0,
+      c.new_books-after.ensures,
+      w.1,
+    )
 
 pub create_core_spec : {M : Type 1} → statement M
 create_core_spec =

@@ -13,4 +13,8 @@ step_spec =
     (λ c κs. search rules)
     (λ c κs. search rules)
     (λ c. let s = c.before.before in
-    rw (said c.before.before.before.before.is_shown.ensures c.before.before.before.if-is_shown.false, c.before.before.closed-sum.ensures, c.landed-more.ensures)))
+    rw (
+      said c.before.before.before.before.is_shown.ensures c.before.before.before.if-is_shown.false,
+      c.before.before.closed-sum.ensures,
+      c.landed-more.ensures,
+    )))

@@ -1,19 +1,20 @@
--- `undo::lots::put_lot` meets its contract: a turn puts entry i of the new area at its place, or past the end.
+-- `undo::lots::put_lot` meets its contract: it has the shape of shapes' Puts.antt.
 -- Assumes nothing.
-use Rattle.std.proofs.Common.{◌≡◌, ◌∙◌, refl, add-one, arith}
+use Rattle.std.proofs.Common.{◌≡◌, sym, ◌∙◌, refl, arith}
 use Rattle.rules.specs.Limits.{entries_max}
-use Rattle.lent.specs.Shapes.{saved}
+use Rattle.undo.specs.Lots.{place_of, new_of}
+use Rattle.shapes.proofs.Puts.{put_start, put_next}
 use Rattle.undo.proofs.lots.put_lot.Goals as goal
 
 pub loop-i-init : goal.loop-i-init
-unfolding saved
-loop-i-init c = (omega arith, refl)
+loop-i-init c = let a = c.args in (omega arith, sym (put_start place_of new_of a.entries.now a.w))
 
 pub loop-i-preserved : goal.loop-i-preserved
-unfolding saved
-loop-i-preserved c = let l = c.loop-i in (
+loop-i-preserved c = let l = c.loop-i in let a = c.args in (
   omega arith,
-  c.append_entry.ensures ∙ rw (add-one l.i, l.invariant.1, c.place_of-j.ensures, c.entries_of-a.ensures) refl,
+  c.append_entry.ensures
+      ∙ rw (put_next place_of new_of a.entries.now a.w l.i, l.invariant.1, c.place_of-j.ensures, c.entries_of-a.ensures)
+      refl,
 )
 
 pub returns : goal.returns
