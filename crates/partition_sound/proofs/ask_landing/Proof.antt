@@ -9,9 +9,9 @@ use Rattle.partition_sound.proofs.ask_landing.Statement.{statement}
 use Rattle.partition_sound.proofs.ask_landing.Tie as tie
 
 returns : tie.Need-returns
-returns c = let o = c.before.before.before in let s = o.before in let e = o.epochs-of.ensures in
-    let r = c.raise.ensures
-    ∙ ap (raised s.args.clock) (epochs_listed s.args.ts o.epochs-of.result e) in
+returns c = let o = c.before.before.before in let s = o.before in let e = o.epochs_of-es.ensures in
+    let r = c.raise-c.ensures
+    ∙ ap (raised s.args.clock) (epochs_listed s.args.ts o.epochs_of-es.result e) in
     (λ k. record {
       clock = r k;
       lce = s.args.clock.lce;
@@ -27,8 +27,8 @@ ask_landing_spec =
     tie.close
     (tie.spec
     (λ c κs. search rules)
-    (λ c. epochs-fit c.before.before.args.ts _ c.before.epochs-of.ensures)
+    (λ c. epochs-fit c.before.before.args.ts _ c.before.epochs_of-es.ensures)
     (λ c. sym (length-take-le _ _ (epochs-fit c.before.before.before.args.ts _
-    c.before.before.epochs-of.ensures)))
+    c.before.before.epochs_of-es.ensures)))
     (λ c κs. search rules)
     returns)

@@ -19,11 +19,11 @@ use Rattle.partition_sound.specs.Sound.{epochs_of}
 use Rattle.partition_sound.proofs.epochs_of.Statement.{statement}
 use Rattle.partition_sound.proofs.epochs_of.Tie as tie
 
-abbrev invariant_loop : tie.invariant_loop
+abbrev invariant_loop : tie.invariant-loop-i
 invariant_loop ts n at₀ i₀ at i = (i ≤ n) × (n ≡ min ts.count writers_max) × (length ts.at ≡ writers_max)
     × (at ≡ pad writers_max 0 (take i (epochs_of ts)))
 
-abbrev decreases_loop : tie.decreases_loop
+abbrev decreases_loop : tie.decreases-loop-i
 decreases_loop ts n at₀ i₀ at i = n - i
 
 -- how many epochs there are, and the one at an index
@@ -35,12 +35,12 @@ epoch-at : (ts : RwTxns) (i : ℕ) → i < ts.count → get_or (epochs_of ts) i 
 epoch-at ts i h = get_or-map (λ (t : RwTxn). t.epoch) (take ts.count ts.at) i no_rw
     ∙ ap (λ (t : RwTxn). t.epoch) (get_or-take ts.count ts.at i no_rw h)
 
-loop-holds : tie.Need-loop-init invariant_loop decreases_loop
-loop-holds c = (omega arith, c.in_use.ensures, writers_32 c.before.args.t1 _ c.before.well-formed.0, refl)
+loop-holds : tie.Need-loop-i-init invariant_loop decreases_loop
+loop-holds c = (omega arith, c.in_use-n.ensures, writers_32 c.before.args.ts _ c.before.well_formed.0, refl)
 
-loop-again : tie.Need-loop-preserved invariant_loop decreases_loop
+loop-again : tie.Need-loop-i-preserved invariant_loop decreases_loop
 loop-again c =
-    let l = c.before.loop in let ts = c.before.before.before.args.t1 in
+    let l = c.before.loop-i in let ts = c.before.before.before.args.ts in
     let n = epochs-length ts l.invariant.2 in (
       omega arith,
       l.invariant.1,
@@ -51,7 +51,7 @@ loop-again c =
 
 returns : tie.Need-returns invariant_loop decreases_loop
 returns c =
-    let l = c.before.loop in let ts = c.before.before.before.args.t1 in
+    let l = c.before.loop-i in let ts = c.before.before.before.args.ts in
     let n = epochs-length ts l.invariant.2 in
     let all : take l.i (epochs_of ts) ≡ epochs_of ts = take_all l.i (epochs_of ts) (omega arith) in
     (λ k. record { at = (l.invariant.3 ∙ ap (pad writers_max 0) all) k; count = (l.invariant.1 ∙ sym n) k })
@@ -59,5 +59,15 @@ returns c =
 pub epochs_of_spec : {M : Type 1} → statement M
 epochs_of_spec =
     tie.close
-    (tie.spec invariant_loop decreases_loop (λ c κs. search rules) loop-holds (λ c. search rules) (λ c. search rules)
-    (λ c. search rules) (λ c. search rules) (λ c. search rules) (λ c. search rules) loop-again returns)
+    (tie.spec invariant_loop
+    decreases_loop
+    (λ c κs. search rules)
+    loop-holds
+    (λ c. search rules)
+    (λ c. search rules)
+    (λ c. search rules)
+    (λ c. search rules)
+    (λ c. search rules)
+    (λ c. search rules)
+    loop-again
+    returns)

@@ -11,5 +11,5 @@ raise_spec =
     tie.close
     (tie.spec
     (λ c κs. search rules)
-    (λ c. rw (said-no c.before.fill.ensures c.if1.true))
-    (λ c. rw (said-yes c.before.fill.ensures c.if1.false)))
+    (λ c. rw (said-no c.before.fill.ensures c.if-not-fill.true-raw))
+    (λ c. rw (said-yes c.before.fill.ensures c.if-not-fill.false-raw)))

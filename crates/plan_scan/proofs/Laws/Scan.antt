@@ -11,4 +11,4 @@ use Rattle.plan_scan.specs.declared.Look.{Look}
 use Rattle.plan_scan.specs.contracts.Look as look-type
 
 pub look-length : (x : Look) (vs : List Val) → Is (row look-type.the_type) x vs → length x.bits ≡ bitmap_max
-look-length x vs g = sym (length-map x.bits (λ v. v)) ∙ g.1.1.1.0.1.0.1
+look-length x vs g = g.1.1.1.0.1.0.1

@@ -5,25 +5,25 @@ use borrow.Author.Rules.{rules}
 use Rattle.plan_write.proofs.append_at.Statement.{statement}
 use Rattle.plan_write.proofs.append_at.Tie as tie
 
-returns : tie.Need-returns
+returns : tie.Need-returns-then-plan
 returns c = let l = c.before.before in
-    c.refused.ensures ∙ rw (sym (ap (λ x. x.full.rows) l.append-plan.ensures) ∙ c.before.if1.true)
+    c.refused.ensures ∙ rw (sym (ap (λ x. x.full.rows) l.append_plan-plan.ensures) ∙ c.before.if-plan.true)
 
-returns_2 : tie.Need-returns-2
+returns_2 : tie.Need-returns-then-plan-2
 returns_2 c = let r = c.before.before in let l = r.before in
-    c.refused2.ensures
+    c.refused-then-plan-2.ensures
     ∙ rw (
-      sym (ap (λ x. x.full.rows) l.append-plan.ensures) ∙ r.if1.false,
-      sym (ap (λ x. x.full.entries) l.append-plan.ensures) ∙ c.before.if2.true,
+      sym (ap (λ x. x.full.rows) l.append_plan-plan.ensures) ∙ r.if-plan.false,
+      sym (ap (λ x. x.full.entries) l.append_plan-plan.ensures) ∙ c.before.if-plan-2.true,
     )
 
-returns_3 : tie.Need-returns-3
+returns_3 : tie.Need-returns
 returns_3 c = let e = c.before in let r = e.before in let l = r.before in
     c.planned.ensures
     ∙ rw (
-      sym (ap (λ x. x.full.rows) l.append-plan.ensures) ∙ r.if1.false,
-      sym (ap (λ x. x.full.entries) l.append-plan.ensures) ∙ e.if2.false,
-      l.append-plan.ensures,
+      sym (ap (λ x. x.full.rows) l.append_plan-plan.ensures) ∙ r.if-plan.false,
+      sym (ap (λ x. x.full.entries) l.append_plan-plan.ensures) ∙ e.if-plan-2.false,
+      l.append_plan-plan.ensures,
     )
 
 pub append_at_spec : {M : Type 1} → statement M

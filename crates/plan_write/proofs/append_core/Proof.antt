@@ -15,45 +15,46 @@ use Rattle.plan_write.proofs.append_core.Tie as tie
 
 -- where the test of soundness was made, and where the function began
 
-abbrev tested : tie.After-admit → tie.After-parts-sound
+
+abbrev tested : tie.After-admit-admitted → tie.After-parts_sound-sound
 tested a = a.before.before
 
-abbrev start : tie.After-admit → tie.Start
-start a = (tested a).before.before.before.before.before.before.before
+abbrev start : tie.After-admit-admitted → tie.Start
+start a = (tested a).before.before.before.before.before.before
 
-sound : (a : tie.After-admit) → let s = start a in
-    (tested a).parts-sound.result ≡ (s.args.rest && manager_ok (manager_in s.args.t1))
+sound : (a : tie.After-admit-admitted) → let s = start a in
+    (tested a).parts_sound-sound.result ≡ (s.args.rest && manager_ok (manager_in s.args.state))
 sound a = let s = start a in
-    parts-sound-is (manager_in s.args.t1) s.args.rest (sized s.args.t1 s.good.0)
-    (tested a).parts-sound.ensures
+    parts-sound-is (manager_in s.args.state) s.args.rest (sized s.args.state s.well_formed.0)
+    (tested a).parts_sound-sound.ensures
 
-returns : tie.Need-returns
+returns : tie.Need-returns-in_default
 unfolding append_write
-returns c = let t = c.before in let f = t.before.before in let k = f.before.before.before in let a = k.before.before in
+returns c = let t = c.before in let f = t.before in let k = f.before.before in let a = k.before in
     rw (
       ← sound a,
-      ← a.admit.ensures,
-      k.admitted2.given.1,
-      (writer-none (manager_in (start a).args.t1) _ f.find-writer.ensures t.enum-told2.given.1).any,
+      ← a.admit-admitted.ensures,
+      k.in-To.is,
+      (writer-none (manager_in (start a).args.state) _ f.find_writer.ensures t.in_default.is).any,
     )
-    c.refused2.ensures
+    c.refused-in_default.ensures
 
-returns_2 : tie.Need-returns-2
+returns_2 : tie.Need-returns-in-Not
 unfolding append_write
-returns_2 c = let k = c.before.before in let a = k.before.before in
-    rw (← sound a, ← a.admit.ensures, k.admitted.given.1) c.refused.ensures
+returns_2 c = let k = c.before in let a = k.before in
+    rw (← sound a, ← a.admit-admitted.ensures, k.in-Not.is) c.refused.ensures
 
-returns_3 : tie.Need-returns-3
+returns_3 : tie.Need-returns-in-At
 unfolding append_write
-returns_3 c = let t = c.before in let f = t.before.before in let k = f.before.before.before in let a = k.before.before
+returns_3 c = let t = c.before in let f = t.before in let k = f.before.before in let a = k.before
     in let s = start a in
     rw (
       ← sound a,
-      ← a.admit.ensures,
-      k.admitted2.given.1,
-      (writer-stands (manager_in s.args.t1) _
-          (sized s.args.t1 s.good.0)
-          f.find-writer.ensures t.enum_told.given.1).any,
+      ← a.admit-admitted.ensures,
+      k.in-To.is,
+      (writer-stands (manager_in s.args.state) _
+          (sized s.args.state s.well_formed.0)
+          f.find_writer.ensures t.in-At.is).any,
     )
     c.append_at.ensures
 

@@ -5,14 +5,14 @@ use borrow.Author.Rules.{rules}
 use Rattle.plan_write.proofs.clear_at.Statement.{statement}
 use Rattle.plan_write.proofs.clear_at.Tie as tie
 
-returns : tie.Need-returns
+returns : tie.Need-returns-then-plan
 returns c = let l = c.before.before in
-    c.refused.ensures ∙ rw (sym (ap (λ x. x.full.entries) l.clear-plan.ensures) ∙ c.before.if1.true)
+    c.refused.ensures ∙ rw (sym (ap (λ x. x.full.entries) l.clear_plan-plan.ensures) ∙ c.before.if-plan.true)
 
-returns_2 : tie.Need-returns-2
+returns_2 : tie.Need-returns
 returns_2 c = let r = c.before in let l = r.before in
     c.planned.ensures
-    ∙ rw (sym (ap (λ x. x.full.entries) l.clear-plan.ensures) ∙ r.if1.false, l.clear-plan.ensures)
+    ∙ rw (sym (ap (λ x. x.full.entries) l.clear_plan-plan.ensures) ∙ r.if-plan.false, l.clear_plan-plan.ensures)
 
 pub clear_at_spec : {M : Type 1} → statement M
 clear_at_spec =

@@ -14,16 +14,18 @@ not-leb : (j l : ℕ) → ltb l j ≡ not (leb j l)
 not-leb j l = split (ltb l j) (λ t. rw (t, lt-leb j l (ltb-true l j t)))
     (λ f. rw (f, le-leb j l (ltb-false l j f)))
 
-returns : tie.Need-returns
-returns c = simp (lt-leb _ _ c.if1.true)
+returns : tie.Need-returns-then-e-l
+returns c = simp (lt-leb _ _ c.if-e-l.true)
 
-returns_2 : tie.Need-returns-2
-returns_2 c = simp (le-leb _ _ c.before.before.if1.false, ne_eqb _ _ c.if2.true)
+returns_2 : tie.Need-returns-then-e-ne1
+returns_2 c = simp (le-leb _ _ c.before.before.if-e-l.false, ne_eqb _ _ c.if-e-ne1.true)
 
-returns_3 : tie.Need-returns-3
+returns_3 : tie.Need-returns
 returns_3 c = let a = c.before.before.before.before.before.args in
-    simp (le-leb _ _ c.before.before.before.if1.false, eq-eqb _ _ c.before.if2.false)
+    simp (le-leb _ _ c.before.before.before.if-e-l.false, eq-eqb _ _ c.before.if-e-ne1.false)
     (not-leb a.e.epoch a.l)
 
 pub stays_spec : {M : Type 1} → statement M
-stays_spec = tie.close (tie.spec returns returns_2 returns_3)
+stays_spec = tie.close (tie.spec returns
+    returns_2
+    returns_3)

@@ -60,7 +60,7 @@ state_8 s vs g = partitions_8 s.partitions _ g.1.1.1.1.1.1.0
 
 -- eight totals
 pub totals_8 : (s : State) (vs : List Val) → Is (row state-type.the_type) s vs → length s.totals ≡ 8
-totals_8 s vs g = sym (length-map s.totals (λ (x : ℕ). x)) ∙ g.1.1.1.1.1.1.1.0.1.0.1
+totals_8 s vs g = g.1.1.1.1.1.1.1.0.1.0.1
 
 -- ---- a write carried out, with the batch bs
 

@@ -140,7 +140,7 @@ module _ (r : Reach) where
         ),
         rw q (omega arith),
       ))
-      (λ f. let q : u ≡ t = p.1 ∙ rw f in inr (rw (q, skipped t e f) (rw q at p.0), q))
+      (λ f. let q : u ≡ t = p.1 ∙ rw f in inr (rw (q, skipped t e f) p.0, q))
 
   top-stands : (rows n : ℕ) (es : List Entry) (ws : List ℕ) (t : Top) → ends_ok rows n es ≡ true
       → Stands t (top_of t es) n (spans n es ws)

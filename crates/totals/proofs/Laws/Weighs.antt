@@ -3,7 +3,7 @@
 -- In order: the rows that the greatest clearing leaves; rows-shown; weighs, weighs-more.
 -- Elsewhere: the pass as a sum (Laws/Tallied.antt), the greatest clearing (Laws/Clearing.antt).
 -- Assumes nothing.
-use mathlib.Core.Path.{◌≡◌, refl, sym, ◌∙◌, ap}
+use mathlib.Core.Path.{◌≡◌, refl, sym, ◌∙◌, ap, subst}
 use mathlib.Core.Bool.{true, false, not, ◌&&◌, ◌||◌, cond}
 use mathlib.Core.Logic.{inl, ⊎_elim}
 use mathlib.Core.List.{List, [], ◌∷◌, ◌++◌, foldl}
@@ -145,8 +145,10 @@ module _ (r : Reach) (rs : List ℕ) (base n : ℕ) (few : n ≤ rows_max) (all 
       let o = end-ok n k e es h in let low = o.low in let g = ends_ok-le n e.end es o.rest in
       let ws = rows_from rs base k n in let rest = spans k (e ∷ es) ws in
       let ih = shown-rows e.end es (top_turn r t e) o.rest (edge-turn r t e (omega arith)) q in
-      let first = first-shown k e rest low g (rw q at (none_greater r t k (e ∷ es) ws))
-      (λ l. rw q at (edge-first r n k e es ws t h b l e.epoch)) in
+      let Below : Top → Type 0 = λ v. any_of (hides r (ltb v.epoch)) rest ≡ false in
+      let Edge : Top → Type 0 = λ v. e.epoch ≡ v.epoch → any_of (hides r (eqb e.epoch)) rest ≡ ltb k v.edge in
+      let first = first-shown k e rest low g (subst Below q (none_greater r t k (e ∷ es) ws))
+      (λ l. subst Edge q (edge-first r n k e es ws t h b l e.epoch)) in
       let b = in_reach r e.epoch && not (hidden (in_reach r) all rest e.epoch) in
       joins (ap (λ v. cond b v []) (rows_take rs base k e.end n low g) ∙ first)
       (ap (λ v. shown_in (in_reach r) (in_reach r) all (spans e.end es v)) (rows_drop rs base k e.end n low g)

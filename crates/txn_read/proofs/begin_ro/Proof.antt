@@ -19,36 +19,36 @@ use Rattle.txn.proofs.Laws.Records.{readers-tidy, parts-sound-is}
 use Rattle.txn_read.proofs.begin_ro.Statement.{statement}
 use Rattle.txn_read.proofs.begin_ro.Tie as tie
 
-abbrev start : tie.After-parts-sound → tie.Start
-start p = p.before.before.before.before.before.before.before
+abbrev start : tie.After-parts_sound → tie.Start
+start p = p.before.before.before.before.before.before
 
-sound : (p : tie.After-parts-sound) → let a = (start p).args in
-    p.parts-sound.result ≡ (a.rest && manager_ok (manager_in a.state))
+sound : (p : tie.After-parts_sound) → let a = (start p).args in
+    p.parts_sound.result ≡ (a.rest && manager_ok (manager_in a.state))
 sound p = let s = start p in
-    parts-sound-is (manager_in s.args.state) s.args.rest (sized s.args.state s.good.0)
-    p.parts-sound.ensures
+    parts-sound-is (manager_in s.args.state) s.args.rest (sized s.args.state s.well_formed.0)
+    p.parts_sound.ensures
 
-begun_ro_requires : tie.Need-begun-ro-requires
+begun_ro_requires : tie.Need-begun_ro-ps-requires
 unfolding last_ticket
 begun_ro_requires c κs =
     let e = c.before in let x = e.before in let t = x.before.before.before.before in let s = start t.before in
-    let m = manager_in s.args.state in let yes = said (sound t.before) t.if1.true in
+    let m = manager_in s.args.state in let yes = said (sound t.before) t.if-parts_sound.true in
     let ok = and_right s.args.rest (manager_ok m) yes in let f = (manager-facts m ok).readers.next-high in
-    ((e.if5.false, omega (arith, x.if4.false)), readers-tidy m ok (sized s.args.state s.good.0))
+    ((e.if-s-ge-READERS_MAX.false, omega (arith, x.if-s.false)), readers-tidy m ok (sized s.args.state s.well_formed.0))
 
-returns_5 : tie.Need-returns-5
+returns_5 : tie.Need-returns-else-s-ge-READERS_MAX
 unfolding begin_ro_answer begun_ro_manager snapshot_epoch last_ticket
 returns_5 c =
     let e = c.before.before in let x = e.before in let h = x.before in let l = h.before in let p = l.before in
     let t = p.before in
     rw (
-      c.begun-ro.ensures,
-      said (sound t.before) t.if1.true,
-      ← p.snapshot.ensures,
-      le-leb _ _ l.if2.false,
-      le-leb _ _ h.if3.false,
-      ne_eqb _ _ x.if4.false,
-      lt-leb _ _ e.if5.false,
+      c.begun_ro-ps.ensures,
+      said (sound t.before) t.if-parts_sound.true,
+      ← p.snapshot-at.ensures,
+      le-leb _ _ l.if-at-s.false,
+      le-leb _ _ h.if-s-at.false,
+      ne_eqb _ _ x.if-s.false,
+      lt-leb _ _ e.if-s-ge-READERS_MAX.false,
     )
 
 pub begin_ro_spec : {M : Type 1} → statement M
@@ -61,12 +61,12 @@ begin_ro_spec =
     (λ c. search rules)
     begun_ro_requires
     (λ c. let p = c.before in let t = p.before in
-    search (tests, ← p.snapshot.ensures, said (sound t.before) t.if1.true))
+    search (tests, ← p.snapshot-at.ensures, said (sound t.before) t.if-parts_sound.true))
     (λ c. let p = c.before.before in let t = p.before in
-    search (tests, ← p.snapshot.ensures, said (sound t.before) t.if1.true))
+    search (tests, ← p.snapshot-at.ensures, said (sound t.before) t.if-parts_sound.true))
     (λ c. let p = c.before.before.before in let t = p.before in
-    search (tests, ← p.snapshot.ensures, said (sound t.before) t.if1.true))
+    search (tests, ← p.snapshot-at.ensures, said (sound t.before) t.if-parts_sound.true))
     (λ c. let p = c.before.before.before.before in let t = p.before in
-    search (tests, ← p.snapshot.ensures, said (sound t.before) t.if1.true))
+    search (tests, ← p.snapshot-at.ensures, said (sound t.before) t.if-parts_sound.true))
     returns_5
-    (λ c. rw (said (sound c.before) c.if1.false)))
+    (λ c. rw (said (sound c.before) c.if-parts_sound.false)))

@@ -9,22 +9,22 @@ use Rattle.txn_read.specs.End.{ended_at}
 use Rattle.txn_read.proofs.end_at.Statement.{statement}
 use Rattle.txn_read.proofs.end_at.Tie as tie
 
-returns : tie.Need-returns
+returns : tie.Need-returns-in_default
 unfolding ended_at
-returns c = let f = c.before.before in rw (sym f.find-reader.ensures ∙ c.enum_told.given.1)
+returns c = let f = c.before in rw (sym f.find_reader.ensures ∙ c.in_default.is)
 
-cut-readers_requires : tie.Need-cut-readers-requires
+cut-readers_requires : tie.Need-cut_readers-left-requires
 cut-readers_requires c κs =
-    let j = c.before in let f = j.before.before in let s = f.before in let ps = s.args.ps in
-    let w = (reader-stands_in ps _ (readers_32 ps _ s.well-formed.0) f.find-reader.ensures j.j.given.1).below in
+    let j = c in let f = j.before in let s = f.before in let ps = s.args.ps in
+    let w = (reader-stands_in ps _ (readers_32 ps _ s.well_formed.0) f.find_reader.ensures j.in-At.is).below in
     let p = s.requires.0 in
     ((omega arith, omega arith, p), s.requires.1)
 
-returns_2 : tie.Need-returns-2
+returns_2 : tie.Need-returns
 unfolding ended_at
 returns_2 c =
-    let j = c.before.before in let f = j.before.before in
-    rw (sym f.find-reader.ensures ∙ j.j.given.1, c.cut-readers.ensures)
+    let j = c.before in let f = j.before in
+    rw (sym f.find_reader.ensures ∙ j.in-At.is, c.cut_readers-left.ensures)
 
 pub end_at_spec : {M : Type 1} → statement M
 unfolding ended_at
@@ -35,10 +35,10 @@ end_at_spec =
     (λ c. search rules)
     (λ c. search rules)
     returns
-    (λ c. let j = c.before in let f = j.before.before in let s = f.before in let ps = s.args.ps in
+    (λ c. let j = c in let f = j.before in let s = f.before in let ps = s.args.ps in
     omega (
       arith,
-      (reader-stands_in ps _ (readers_32 ps _ s.well-formed.0) f.find-reader.ensures j.j.given.1
+      (reader-stands_in ps _ (readers_32 ps _ s.well_formed.0) f.find_reader.ensures j.in-At.is
           ).below,
     ))
     cut-readers_requires

@@ -15,27 +15,27 @@ use Rattle.txn_read.proofs.Laws.ReadOnly.{ended_is}
 use Rattle.txn_read.proofs.end_ro.Statement.{statement}
 use Rattle.txn_read.proofs.end_ro.Tie as tie
 
-abbrev start : tie.After-parts-sound → tie.Start
-start p = p.before.before.before.before.before.before.before
+abbrev start : tie.After-parts_sound → tie.Start
+start p = p.before.before.before.before.before.before
 
-sound : (p : tie.After-parts-sound) → let a = (start p).args in
-    p.parts-sound.result ≡ (a.rest && manager_ok (manager_in a.state))
+sound : (p : tie.After-parts_sound) → let a = (start p).args in
+    p.parts_sound.result ≡ (a.rest && manager_ok (manager_in a.state))
 sound p = let s = start p in
-    parts-sound-is (manager_in s.args.state) s.args.rest (sized s.args.state s.good.0)
-    p.parts-sound.ensures
+    parts-sound-is (manager_in s.args.state) s.args.rest (sized s.args.state s.well_formed.0)
+    p.parts_sound.ensures
 
-end-at_requires : tie.Need-end-at-requires
+end-at_requires : tie.Need-end_at-e-requires
 end-at_requires c κs =
     let t = c.before in let s = start t.before in let m = manager_in s.args.state in
-    let ok = and_right s.args.rest (manager_ok m) (said (sound t.before) t.if1.true) in
-    ((manager-facts m ok).readers-room, readers-tidy m ok (sized s.args.state s.good.0))
+    let ok = and_right s.args.rest (manager_ok m) (said (sound t.before) t.if-parts_sound.true) in
+    ((manager-facts m ok).readers-room, readers-tidy m ok (sized s.args.state s.well_formed.0))
 
-returns : tie.Need-returns
+returns : tie.Need-returns-then-parts_sound
 returns c =
     let e = c.before in let t = e.before.before in let s = start t.before in
-    rw e.end-at.ensures
-    (ended_is s.args.state (sized s.args.state s.good.0) s.args.rest
-    (said (sound t.before) t.if1.true) s.args.t)
+    rw e.end_at-e.ensures
+    (ended_is s.args.state (sized s.args.state s.well_formed.0) s.args.rest
+    (said (sound t.before) t.if-parts_sound.true) s.args.t)
 
 pub end_ro_spec : {M : Type 1} → statement M
 unfolding end_ro_answer
@@ -45,4 +45,4 @@ end_ro_spec =
     (λ c κs. search rules)
     end-at_requires
     returns
-    (λ c. rw (said (sound c.before) c.if1.false)))
+    (λ c. rw (said (sound c.before) c.if-parts_sound.false)))

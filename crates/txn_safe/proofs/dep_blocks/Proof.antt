@@ -23,11 +23,11 @@ use Rattle.txn_safe.proofs.Laws.Rows.{views-start, views-next}
 use Rattle.txn_safe.proofs.dep_blocks.Statement.{statement}
 use Rattle.txn_safe.proofs.dep_blocks.Tie as tie
 
-abbrev invariant_loop : tie.invariant_loop
+abbrev invariant_loop : tie.invariant-loop-j
 invariant_loop deps t ts n held₀ i row j₀ held j = (held ≡ false)
     × (any_of (λ d. leb d t) row ≡ any_of (λ d. leb d t) (drop j row))
 
-abbrev decreases_loop : tie.decreases_loop
+abbrev decreases_loop : tie.decreases-loop-j
 decreases_loop deps t ts n held₀ i row j₀ held j = length row - j
 
 abbrev invariant-writers : tie.invariant-writers
@@ -38,50 +38,50 @@ abbrev decreases-writers : tie.decreases-writers
 decreases-writers deps t ts n held₀ i₀ held i = n - i
 
 writers-holds : tie.Need-writers-init invariant_loop decreases_loop invariant-writers decreases-writers
-writers-holds c = let s = c.before.before in let ts = s.args.t1 in (
-  views-start ts s.args.deps.now (writers_32 ts _ s.well-formed.0) c.in_use.ensures,
+writers-holds c = let s = c.before.before in let ts = s.args.ts in (
+  views-start ts s.args.deps.now (writers_32 ts _ s.well_formed.0) c.in_use-n.ensures,
   refl,
   ap (any_of (dep_blocks s.args.t)) (views-take ts.count s.args.deps.now ts.at),
 )
 
-loop-again : tie.Need-loop-preserved invariant_loop decreases_loop invariant-writers decreases-writers
+loop-again : tie.Need-loop-j-preserved invariant_loop decreases_loop invariant-writers decreases-writers
 loop-again c =
-    let l = c.before.before in let k = l.before.loop in let row = l.before.before.row_of.result.now in
-    (k.invariant.0, k.invariant.1 ∙ rw (from_next row 0 k.j l.loop-test.true, lt-leb _ _ c.if2.false))
+    let l = c.before.before in let k = l.before.loop-j in let row = l.before.before.row_of-row.result.now in
+    (k.invariant.0, k.invariant.1 ∙ rw (from_next row 0 k.j l.loop-j-test.true, lt-leb _ _ c.if-row-j.false))
 
 writers-again : tie.Need-writers-preserved invariant_loop decreases_loop invariant-writers decreases-writers
 writers-again c =
     let l = c.before.before.before in let s = l.before.before.before.before in let o = l.before.writers.invariant in
-    let e = views-next s.args.t1 s.args.deps.now (writers_32 s.args.t1 _ s.well-formed.0) o.0
+    let e = views-next s.args.ts s.args.deps.now (writers_32 s.args.ts _ s.well_formed.0) o.0
     l.writers-test.true in
     ⊎_elim
     (λ w. (
       scan-on o.0 l.writers-test.true,
-      w.4 ∙ w.2.inv.0,
+      w.held-is ∙ w.loop-j.invariant.0,
       o.2 ∙ rw (
         e,
-        eq-eqb _ _ w.0.taken,
-        ← w.1.ensures,
-        w.2.inv.1,
-        drop_of_length-le w.1.result.now w.3.left,
+        eq-eqb _ _ w.if-x-eq0.true,
+        ← w.row_of-row.ensures,
+        w.loop-j.invariant.1,
+        drop_of_length-le w.row_of-row.result.now w.loop-j-test.false,
       ),
     ))
-    (λ w. (scan-on o.0 l.writers-test.true, w.1 ∙ o.1, o.2 ∙ rw (e, ne_eqb _ _ w.0.left)))
-    c.if1.branch
+    (λ w. (scan-on o.0 l.writers-test.true, w.held-is ∙ o.1, o.2 ∙ rw (e, ne_eqb _ _ w.if-x-eq0.false)))
+    c.if-x-eq0.branch-raw
 
-returns_2 : tie.Need-returns-2 invariant_loop decreases_loop invariant-writers decreases-writers
+returns_2 : tie.Need-returns-then-row-j invariant_loop decreases_loop invariant-writers decreases-writers
 returns_2 c =
-    let l = c.before.before in let k = l.before.loop in let r = l.before.before in
+    let l = c.before.before in let k = l.before.loop-j in let r = l.before.before in
     let b = r.before in let m = b.before.before.before in let s = m.before.before.before.before in
     let o = m.before.writers.invariant in
     sym (o.2 ∙ rw (
-      views-next s.args.t1 s.args.deps.now (writers_32 s.args.t1 _ s.well-formed.0) o.0
+      views-next s.args.ts s.args.deps.now (writers_32 s.args.ts _ s.well_formed.0) o.0
           m.writers-test.true,
-      eq-eqb _ _ b.if1.true,
-      ← r.row_of.ensures,
+      eq-eqb _ _ b.if-x-eq0.true,
+      ← r.row_of-row.ensures,
       k.invariant.1,
-      from_next r.row_of.result.now 0 k.j l.loop-test.true,
-      le-leb _ _ c.if2.true,
+      from_next r.row_of-row.result.now 0 k.j l.loop-j-test.true,
+      le-leb _ _ c.if-row-j.true,
     ))
 
 pub dep_blocks_spec : {M : Type 1} → statement M

@@ -21,6 +21,6 @@ greatest_spec =
     (λ c κs. search rules)
     (λ c κs. search rules)
     (λ c. let a = c.before.before.before.args in
-    rw (c.under-readers.ensures, c.before.under-writers.ensures)
+    rw (c.under_readers.ensures, c.before.under_writers.ensures)
     (sym (lowest-back a.c.lce (map (λ (p : RoTxn). p.epoch) (take a.ps.count a.ps.at))
     (gather under_deps (viewed a.ts a.deps.now))))))

@@ -10,6 +10,6 @@ is_blocked_spec =
     tie.close
     (tie.spec
     (λ c κs. search rules)
-    (λ c. rw (said c.before.reader-blocks.ensures c.if1.true))
+    (λ c. rw (said c.before.reader_blocks.ensures c.if-reader_blocks.true))
     (λ c κs. search rules)
-    (λ c. rw (said c.before.before.reader-blocks.ensures c.before.if1.false) c.dep-blocks.ensures))
+    (λ c. rw (said c.before.before.reader_blocks.ensures c.before.if-reader_blocks.false) c.dep_blocks.ensures))

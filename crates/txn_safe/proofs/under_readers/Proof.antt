@@ -17,19 +17,19 @@ use Rattle.txn_find.proofs.Laws.Places.{readers_32}
 use Rattle.txn_safe.proofs.under_readers.Statement.{statement}
 use Rattle.txn_safe.proofs.under_readers.Tie as tie
 
-abbrev invariant_loop : tie.invariant_loop
+abbrev invariant_loop : tie.invariant-loop-i
 invariant_loop top ps n low₀ i₀ low i = Scan ps.at ps.count readers_max n i
     × (foldr min top (map (λ (p : RoTxn). p.epoch) (take ps.count ps.at))
     ≡ foldr min low (map (λ p. p.epoch) (drop i (take ps.count ps.at))))
 
-abbrev decreases_loop : tie.decreases_loop
+abbrev decreases_loop : tie.decreases-loop-i
 decreases_loop top ps n low₀ i₀ low i = n - i
 
-loop-again : tie.Need-loop-preserved invariant_loop decreases_loop
-loop-again c = let l = c.before.before.loop in (
+loop-again : tie.Need-loop-i-preserved invariant_loop decreases_loop
+loop-again c = let l = c.before.before.loop-i in (
   scan-on l.invariant.0 (omega arith),
   l.invariant.1
-      ∙ lowest-next l.invariant.0 no_ro (omega arith) l.low (λ p. p.epoch) ∙ rw c.lower.ensures,
+      ∙ lowest-next l.invariant.0 no_ro (omega arith) l.low (λ p. p.epoch) ∙ rw c.lower-low.ensures,
 )
 
 pub under_readers_spec : {M : Type 1} → statement M
@@ -39,11 +39,11 @@ under_readers_spec =
     invariant_loop
     decreases_loop
     (λ c κs. omega arith)
-    (λ c. (scan-start (readers_32 c.before.args.t1 _ c.before.well-formed.0) c.in_use.ensures, refl))
+    (λ c. (scan-start (readers_32 c.before.args.ps _ c.before.well_formed.0) c.in_use-n.ensures, refl))
     (λ c. omega arith)
     (λ c. omega arith)
     (λ c κs. search rules)
     (λ c. omega arith)
     (λ c. omega arith)
     loop-again
-    (λ c. let l = c.before.loop.invariant in sym (l.1 ∙ rw (scan-end l.0 (omega arith)))))
+    (λ c. let l = c.before.loop-i.invariant in sym (l.1 ∙ rw (scan-end l.0 (omega arith)))))

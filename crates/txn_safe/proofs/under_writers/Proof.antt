@@ -22,29 +22,29 @@ use Rattle.txn_safe.proofs.Laws.Rows.{views-start, lowest-views}
 use Rattle.txn_safe.proofs.under_writers.Statement.{statement}
 use Rattle.txn_safe.proofs.under_writers.Tie as tie
 
-abbrev invariant_loop : tie.invariant_loop
+abbrev invariant_loop : tie.invariant-loop-i
 invariant_loop deps top ts n low₀ i₀ low i = Scan (views deps ts.at) ts.count writers_max n i
     × (foldr min top (gather under_deps (viewed ts deps))
     ≡ foldr min low (gather under_deps (drop i (take ts.count (views deps ts.at)))))
 
-abbrev decreases_loop : tie.decreases_loop
+abbrev decreases_loop : tie.decreases-loop-i
 decreases_loop deps top ts n low₀ i₀ low i = n - i
 
-loop-holds : tie.Need-loop-init invariant_loop decreases_loop
-loop-holds c = let s = c.before.before in let ts = s.args.t1 in (
-  views-start ts s.args.deps.now (writers_32 ts _ s.well-formed.0) c.in_use.ensures,
+loop-holds : tie.Need-loop-i-init invariant_loop decreases_loop
+loop-holds c = let s = c.before.before in let ts = s.args.ts in (
+  views-start ts s.args.deps.now (writers_32 ts _ s.well_formed.0) c.in_use-n.ensures,
   ap (λ ws. foldr min s.args.top (gather under_deps ws)) (views-take ts.count s.args.deps.now ts.at),
 )
 
-loop-again : tie.Need-loop-preserved invariant_loop decreases_loop
+loop-again : tie.Need-loop-i-preserved invariant_loop decreases_loop
 loop-again c =
-    let l = c.before.before.before in let s = l.before.before.before.before in let i = l.before.loop in (
-      scan-on i.invariant.0 l.loop-test.true,
+    let l = c.before.before.before in let s = l.before.before.before.before in let i = l.before.loop-i in (
+      scan-on i.invariant.0 l.loop-i-test.true,
       i.invariant.1
-          ∙ lowest-views s.args.t1 s.args.deps.now (writers_32 s.args.t1 _ s.well-formed.0) i.invariant.0
-          l.loop-test.true i.low under_deps
-          ∙ ⊎_elim (λ w. rw (w.3, w.2.ensures, eq-eqb _ _ w.0.taken, w.1.ensures))
-          (λ w. rw (w.1, ne_eqb _ _ w.0.left)) c.if1.branch,
+          ∙ lowest-views s.args.ts s.args.deps.now (writers_32 s.args.ts _ s.well_formed.0) i.invariant.0
+          l.loop-i-test.true i.low under_deps
+          ∙ ⊎_elim (λ w. rw (w.low-is, w.under_row-low.ensures, eq-eqb _ _ w.if-x-eq0.true, w.row_of-row.ensures))
+          (λ w. rw (w.low-is, ne_eqb _ _ w.if-x-eq0.false)) c.if-x-eq0.branch-raw,
     )
 
 pub under_writers_spec : {M : Type 1} → statement M
@@ -62,4 +62,4 @@ under_writers_spec =
     (λ c. omega arith)
     (λ c. omega arith)
     loop-again
-    (λ c. let l = c.before.loop.invariant in sym (l.1 ∙ rw (scan-end l.0 (omega arith)))))
+    (λ c. let l = c.before.loop-i.invariant in sym (l.1 ∙ rw (scan-end l.0 (omega arith)))))

@@ -11,8 +11,8 @@ use Rattle.partition_sound.proofs.areas.areas_of.Tie as tie
 
 returns : tie.Need-returns
 returns c =
-    let ps = c.args.t1 in
-    sym (ap (λ qs. ps.spare ∷ map (λ q. q.area) qs) (eight ps.at no_partition (partitions_8 ps _ c.well-formed.0)))
+    let ps = c.args.ps in
+    sym (ap (λ qs. ps.spare ∷ map (λ q. q.area) qs) (eight ps.at no_partition (partitions_8 ps _ c.well_formed.0)))
 
 pub areas_of_spec : {M : Type 1} → statement M
 areas_of_spec =

@@ -7,16 +7,16 @@ use Rattle.partition_sound.proofs.Laws.Areas.{areas_ok-is}
 use Rattle.partition_sound.proofs.areas.areas_ok.Statement.{statement}
 use Rattle.partition_sound.proofs.areas.areas_ok.Tie as tie
 
-returns : tie.Need-returns
+returns : tie.Need-returns-then-all_below
 returns c =
     let b = c.before.before.before in
-    sym (areas_ok-is _ _ true c.all-differ.result b.before.before.areas-of.ensures
-    (sym c.before.before.if1.true ∙ b.all-below.ensures) c.all-differ.ensures)
+    sym (areas_ok-is _ _ true c.all_differ.result b.before.before.areas_of-areas.ensures
+    (sym c.before.before.if-all_below.true ∙ b.all_below.ensures) c.all_differ.ensures)
 
-returns_2 : tie.Need-returns-2
+returns_2 : tie.Need-returns
 returns_2 c =
     let b = c.before in
-    sym (areas_ok-is _ _ false _ b.before.before.areas-of.ensures (sym c.if1.false ∙ b.all-below.ensures)
+    sym (areas_ok-is _ _ false _ b.before.before.areas_of-areas.ensures (sym c.if-all_below.false ∙ b.all_below.ensures)
     refl)
 
 pub areas_ok_spec : {M : Type 1} → statement M

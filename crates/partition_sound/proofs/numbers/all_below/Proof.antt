@@ -15,32 +15,32 @@ use Rattle.partition_sound.specs.Areas.{all_below}
 use Rattle.partition_sound.proofs.numbers.all_below.Statement.{statement}
 use Rattle.partition_sound.proofs.numbers.all_below.Tie as tie
 
-abbrev invariant_loop : tie.invariant_loop
+abbrev invariant_loop : tie.invariant-loop-i
 invariant_loop xs limit i₀ i = (i ≤ length xs) × (all_below limit xs ≡ all_below limit (drop i xs))
 
-abbrev decreases_loop : tie.decreases_loop
+abbrev decreases_loop : tie.decreases-loop-i
 decreases_loop xs limit i₀ i = length xs - i
 
-loop-holds : tie.Need-loop-init invariant_loop decreases_loop
+loop-holds : tie.Need-loop-i-init invariant_loop decreases_loop
 loop-holds c = (omega arith, refl)
 
-returns : tie.Need-returns invariant_loop decreases_loop
+returns : tie.Need-returns-then-limit-xs invariant_loop decreases_loop
 returns c =
-    let l = c.before.before.before.loop in let s = c.before.before.before.before.args in
+    let l = c.before.before.before.loop-i in let s = c.before.before.before.before.args in
     sym (l.invariant.1 ∙ all-next s.xs.now _ refl (λ a. ltb a s.limit) 0 l.i false (omega arith)
-    (le-ltb _ _ c.if1.true))
+    (le-ltb _ _ c.if-limit-xs.true))
 
-loop-again : tie.Need-loop-preserved invariant_loop decreases_loop
+loop-again : tie.Need-loop-i-preserved invariant_loop decreases_loop
 loop-again c =
-    let l = c.before.before.before.loop in let s = c.before.before.before.before.args in (
+    let l = c.before.before.before.loop-i in let s = c.before.before.before.before.args in (
       omega arith,
       l.invariant.1 ∙ all-next s.xs.now _ refl (λ a. ltb a s.limit) 0 l.i true (omega arith)
-          (lt-ltb _ _ c.if1.false),
+          (lt-ltb _ _ c.if-limit-xs.false),
     )
 
-returns_2 : tie.Need-returns-2 invariant_loop decreases_loop
+returns_2 : tie.Need-returns invariant_loop decreases_loop
 returns_2 c =
-    let l = c.before.loop in let s = c.before.before.args in
+    let l = c.before.loop-i in let s = c.before.before.args in
     sym (l.invariant.1 ∙ all_end s.xs.now _ refl (λ a. ltb a s.limit) l.i (omega arith))
 
 pub all_below_spec : {M : Type 1} → statement M

@@ -13,32 +13,32 @@ use Rattle.lists.proofs.Laws.Places.{distinct-next}
 use Rattle.partition_sound.proofs.numbers.all_differ.Statement.{statement}
 use Rattle.partition_sound.proofs.numbers.all_differ.Tie as tie
 
-abbrev invariant_loop : tie.invariant_loop
+abbrev invariant_loop : tie.invariant-loop-i
 invariant_loop xs i₀ i = (i ≤ length xs) × (distinct xs ≡ distinct (drop i xs))
 
-abbrev decreases_loop : tie.decreases_loop
+abbrev decreases_loop : tie.decreases-loop-i
 decreases_loop xs i₀ i = length xs - i
 
-loop-holds : tie.Need-loop-init invariant_loop decreases_loop
+loop-holds : tie.Need-loop-i-init invariant_loop decreases_loop
 loop-holds c = (omega arith, refl)
 
-returns : tie.Need-returns invariant_loop decreases_loop
+returns : tie.Need-returns-then-has invariant_loop decreases_loop
 returns c =
-    let b = c.before.before.before.before.before in let l = b.loop in let s = b.before.before.args in
+    let b = c.before.before.before.before.before in let l = b.loop-i in let s = b.before.before.args in
     sym (l.invariant.1 ∙ distinct-next s.xs.now l.i 0 true (omega arith)
-    (sym c.if1.true ∙ c.before.has.ensures))
+    (sym c.if-has.true ∙ c.before.has.ensures))
 
-loop-again : tie.Need-loop-preserved invariant_loop decreases_loop
+loop-again : tie.Need-loop-i-preserved invariant_loop decreases_loop
 loop-again c =
-    let b = c.before.before.before.before.before in let l = b.loop in let s = b.before.before.args in (
+    let b = c.before.before.before.before.before in let l = b.loop-i in let s = b.before.before.args in (
       omega arith,
       l.invariant.1 ∙ distinct-next s.xs.now l.i 0 false (omega arith)
-          (sym c.if1.false ∙ c.before.has.ensures),
+          (sym c.if-has.false ∙ c.before.has.ensures),
     )
 
-returns_2 : tie.Need-returns-2 invariant_loop decreases_loop
+returns_2 : tie.Need-returns invariant_loop decreases_loop
 returns_2 c =
-    let l = c.before.loop in let s = c.before.before.before.args in
+    let l = c.before.loop-i in let s = c.before.before.before.args in
     sym (l.invariant.1 ∙ rw (drop_of_length-le s.xs.now {i = l.i} (omega arith)))
 
 pub all_differ_spec : {M : Type 1} → statement M

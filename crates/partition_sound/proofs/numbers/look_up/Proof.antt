@@ -19,9 +19,9 @@ elem_at x [] i h e = absurd (not-suc-le-zero h)
 elem_at x (y ∷ ys) zero h e = or_left (eqb x y) (elem x ys) (eq-eqb x y e)
 elem_at x (y ∷ ys) (suc i) h e = or_right (eqb x y) (elem x ys) (elem_at x ys i (le_of_suc-le-suc h) e)
 
-returns : tie.Need-returns
+returns : tie.Need-returns-then-x-xs
 returns c = let i = c.before.before in let s = i.before.before.before.args in
-    sym (elem_at s.x s.xs.now i.before.likely.result i.if1.true c.if2.true)
+    sym (elem_at s.x s.xs.now i.before.likely-i.result i.if-i-xs.true c.if-x-xs.true)
 
 pub look_up_spec : {M : Type 1} → statement M
 look_up_spec =

@@ -9,17 +9,17 @@ use Rattle.partition_sound.specs.Pass.{found_in}
 use Rattle.partition_sound.proofs.pass.is_found.Statement.{statement}
 use Rattle.partition_sound.proofs.pass.is_found.Tie as tie
 
-slice_aggregate-look-up : tie.Need-slice-aggregate-look-up
-slice_aggregate-look-up c = let u = c.before.in_use.ensures in sym (length-take-le _ _ (omega arith))
+slice_aggregate-look-up : tie.Need-slice_bounds-look_up-end
+slice_aggregate-look-up c = let u = c.in_use-n.ensures in sym (length-take-le _ _ (omega arith))
 
-returns : tie.Need-returns
+returns : tie.Need-returns-then-j-c
 unfolding found_in
-returns c = rw (le-leb _ _ c.if1.true)
+returns c = rw (le-leb _ _ c.if-j-c.true)
 
-returns_2 : tie.Need-returns-2
+returns_2 : tie.Need-returns
 unfolding found_in
-returns_2 c = let o = c.before.before in let s = o.before.before.before.before in let js = s.args.epochs.now in
-    rw (lt-leb _ _ o.before.if1.false, ← take-used js s.args.c.count _ refl, ← o.in_use.ensures)
+returns_2 c = let o = c.before.before in let s = o.before.before.before in let js = s.args.epochs.now in
+    rw (lt-leb _ _ c.before.before.if-j-c.false, ← take-used js s.args.c.count _ refl, ← c.before.in_use-n.ensures)
     c.look_up.ensures
 
 pub is_found_spec : {M : Type 1} → statement M

@@ -17,12 +17,12 @@ step_spec =
     (λ c κs. search rules)
     (λ c. c.follow.ensures ∙ search tests)
     (λ c κs. search rules)
-    (λ c. c.bad2.ensures ∙ search tests)
+    (λ c. c.bad-then-c-j.ensures ∙ search tests)
     (λ c κs. search rules)
     (λ c κs. search rules)
-    (λ c. c.bad3.ensures ∙ search (tests, said-no c.before.before.is_found.ensures c.before.if4.true))
+    (λ c. c.bad-then-not-is_found.ensures ∙ search (tests, said-no c.before.before.is_found.ensures c.before.if-not-is_found.true-raw))
     (λ c κs. search rules)
-    (λ c. c.follow2.ensures ∙ search (
+    (λ c. c.follow-2.ensures ∙ search (
       tests,
-      said-yes c.before.before.is_found.ensures c.before.if4.false,
+      said-yes c.before.before.is_found.ensures c.before.if-not-is_found.false-raw,
     )))

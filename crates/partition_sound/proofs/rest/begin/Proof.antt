@@ -4,11 +4,11 @@ use Rattle.lists.proofs.Laws.Branches.{said-yes, said-no}
 use Rattle.partition_sound.proofs.rest.begin.Statement.{statement}
 use Rattle.partition_sound.proofs.rest.begin.Tie as tie
 
-returns : tie.Need-returns
-returns c = rw (said-no c.before.lengths-ok.ensures c.if1.true)
+returns : tie.Need-returns-then-not-lengths_ok
+returns c = rw (said-no c.before.lengths_ok.ensures c.if-not-lengths_ok.true-raw)
 
-returns_2 : tie.Need-returns-2
-returns_2 c = rw (said-yes c.before.before.lengths-ok.ensures c.before.if1.false, c.areas-ok.ensures)
+returns_2 : tie.Need-returns
+returns_2 c = rw (said-yes c.before.before.lengths_ok.ensures c.before.if-not-lengths_ok.false-raw, c.areas_ok.ensures)
 
 pub begin_spec : {M : Type 1} → statement M
 begin_spec =

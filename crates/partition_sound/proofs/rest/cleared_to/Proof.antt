@@ -5,4 +5,5 @@ use Rattle.partition_sound.proofs.rest.cleared_to.Tie as tie
 
 pub cleared_to_spec : {M : Type 1} → statement M
 unfolding cleared_to
-cleared_to_spec = tie.close (tie.spec (λ c. rw c.if1.true) (λ c. rw c.if1.false))
+cleared_to_spec = tie.close (tie.spec (λ c. rw c.if-last.true)
+    (λ c. rw c.if-last.false))

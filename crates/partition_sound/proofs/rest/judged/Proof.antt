@@ -12,35 +12,35 @@ unfolding judged_of
 judged_spec =
     tie.close
     (tie.spec
-    (λ c. rw (not-true c.before.before.args.ok c.if1.true))
+    (λ c. rw (not-true c.before.before.args.ok c.if-not-ok.true-raw))
     (λ c κs. search rules)
     (λ c. let u = c.before.before in
     rw (
-      not-false u.before.before.args.ok u.if1.false,
-      said-no c.before.counts-ok.ensures c.if2.true,
+      not-false u.before.before.args.ok u.if-not-ok.false-raw,
+      said-no c.before.counts_ok.ensures c.if-not-counts_ok.true-raw,
     ))
     (λ c. let v = c.before.before.before in let u = v.before.before in
     rw (
-      not-false u.before.before.args.ok u.if1.false,
-      said-yes v.before.counts-ok.ensures v.if2.false,
-      ne_eqb _ _ c.if3.true,
+      not-false u.before.before.args.ok u.if-not-ok.false-raw,
+      said-yes v.before.counts_ok.ensures v.if-not-counts_ok.false-raw,
+      ne_eqb _ _ c.if-last-q.true,
     ))
     (λ c. let w = c.before.before in let v = w.before.before.before in let u = v.before.before in
     let s = u.before.before.args in
     rw (
-      not-false s.ok u.if1.false,
-      said-yes v.before.counts-ok.ensures v.if2.false,
-      eq-eqb _ _ w.if3.false,
-      not-true s.last.ok c.if4.true,
+      not-false s.ok u.if-not-ok.false-raw,
+      said-yes v.before.counts_ok.ensures v.if-not-counts_ok.false-raw,
+      eq-eqb _ _ w.if-last-q.false,
+      not-true s.last.ok c.if-not-last.true,
     ))
     (λ c. let x = c.before in let w = x.before.before in let v = w.before.before.before in
     let u = v.before.before in let s = u.before.before.args in
     rw (
-      not-false s.ok u.if1.false,
-      said-yes v.before.counts-ok.ensures v.if2.false,
-      eq-eqb _ _ w.if3.false,
-      not-false s.last.ok x.if4.false,
-      le-ltb _ _ c.if5.true,
+      not-false s.ok u.if-not-ok.false-raw,
+      said-yes v.before.counts_ok.ensures v.if-not-counts_ok.false-raw,
+      eq-eqb _ _ w.if-last-q.false,
+      not-false s.last.ok x.if-not-last.false,
+      le-ltb _ _ c.if-p-ge-PARTITIONS_MAX.true,
     ))
     (λ c. search rules)
     (λ c. search rules)
@@ -48,10 +48,10 @@ judged_spec =
     (λ c. let y = c.before in let x = y.before in let w = x.before.before in let v = w.before.before.before in
     let u = v.before.before in let s = u.before.before.args in
     rw (
-      not-false s.ok u.if1.false,
-      said-yes v.before.counts-ok.ensures v.if2.false,
-      eq-eqb _ _ w.if3.false,
-      not-false s.last.ok x.if4.false,
-      lt-ltb _ _ y.if5.false,
+      not-false s.ok u.if-not-ok.false-raw,
+      said-yes v.before.counts_ok.ensures v.if-not-counts_ok.false-raw,
+      eq-eqb _ _ w.if-last-q.false,
+      not-false s.last.ok x.if-not-last.false,
+      lt-ltb _ _ y.if-p-ge-PARTITIONS_MAX.false,
       c.closed.ensures,
     )))

@@ -11,4 +11,4 @@ landed_at_spec =
     (tie.spec
     (λ c κs. search rules)
     (λ c κs. search rules)
-    (λ c. rw (c.before.total-at.ensures, c.whole-at.ensures)))
+    (λ c. rw (c.before.total_at-landed.ensures, c.whole_at-found.ensures)))

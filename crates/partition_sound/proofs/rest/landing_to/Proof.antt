@@ -6,4 +6,5 @@ use Rattle.partition_sound.proofs.rest.landing_to.Tie as tie
 
 pub landing_to_spec : {M : Type 1} → statement M
 unfolding landing_to
-landing_to_spec = tie.close (tie.spec (λ c. search tests) (λ c. search tests))
+landing_to_spec = tie.close (tie.spec (λ c. search tests)
+    (λ c. search tests))

@@ -6,4 +6,6 @@ use Rattle.partition_sound.proofs.rest.low_of.Tie as tie
 
 pub low_of_spec : {M : Type 1} → statement M
 unfolding low_of
-low_of_spec = tie.close (tie.spec (λ c. search tests) (λ c. search tests) (λ c. search tests))
+low_of_spec = tie.close (tie.spec (λ c. search tests)
+    (λ c. search tests)
+    (λ c. search tests))

@@ -14,17 +14,17 @@ use Rattle.rules.specs.Limits.{partitions_max}
 use Rattle.partition_sound.proofs.rest.total_at.Statement.{statement}
 use Rattle.partition_sound.proofs.rest.total_at.Tie as tie
 
-returns : tie.Need-returns
-returns c = let s = c.before.before.before.before.args in let j = c.before.if2 in
+returns : tie.Need-returns-after-newest-eq0
+returns c = let s = c.before.before.before.before.args in let j = c.before.if-newest-eq0 in
     let b : j.before ≡ cond (eqb s.newest.epoch 0) (get_or s.totals s.p 0) 0 = ⊎_elim
-    (λ w. rw (w.1, eq-eqb s.newest.epoch 0 w.0.taken))
-    (λ w. rw (w.1, ne_eqb s.newest.epoch 0 w.0.left))
-    j.branch in
+    (λ w. rw (w.before-is, eq-eqb s.newest.epoch 0 w.if-newest-eq0.true))
+    (λ w. rw (w.before-is, ne_eqb s.newest.epoch 0 w.if-newest-eq0.false))
+    j.branch-raw in
     rw (c.add.ensures, b)
 
-returns_2 : tie.Need-returns-2
+returns_2 : tie.Need-returns-else-p-lt-PARTITIONS_MAX
 returns_2 c = let u = c.before in let s = u.args in
-    let n : length s.totals ≡ partitions_max = good_length (e_int w64) 8 s.totals _ u.well-formed.0 in
+    let n : length s.totals ≡ partitions_max = good_length (e_int w64) 8 s.totals _ u.well_formed.0 in
     sym (set_out s.totals s.p _ (omega arith))
 
 pub total_at_spec : {M : Type 1} → statement M

@@ -12,9 +12,9 @@ weighed_from_spec =
     tie.close
     (tie.spec
     (λ c κs. search rules)
-    (λ c. rw (said-no c.before.is_whole.ensures c.if1.true))
+    (λ c. rw (said-no c.before.is_whole.ensures c.if-not-is_whole.true-raw))
     (λ c. let v = c.before in
-    rw (said-yes v.before.is_whole.ensures v.if1.false, le-ltb _ _ c.if2.true))
+    rw (said-yes v.before.is_whole.ensures v.if-not-is_whole.false-raw, le-ltb _ _ c.if-end-from.true))
     (λ c. search rules)
     (λ c. let v = c.before in
-    rw (said-yes v.before.is_whole.ensures v.if1.false, lt-ltb _ _ c.if2.false)))
+    rw (said-yes v.before.is_whole.ensures v.if-not-is_whole.false-raw, lt-ltb _ _ c.if-end-from.false)))

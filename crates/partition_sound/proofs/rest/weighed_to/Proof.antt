@@ -12,18 +12,18 @@ weighed_to_spec =
     tie.close
     (tie.spec
     (λ c κs. search rules)
-    (λ c. rw (said-no c.before.counts-ok.ensures c.if1.true))
+    (λ c. rw (said-no c.before.counts_ok.ensures c.if-not-counts_ok.true-raw))
     (λ c. let v = c.before.before.before in
-    rw (said-yes v.before.counts-ok.ensures v.if1.false, ne_eqb _ _ c.if2.true))
+    rw (said-yes v.before.counts_ok.ensures v.if-not-counts_ok.false-raw, ne_eqb _ _ c.if-last-q.true))
     (λ c. let w = c.before.before in let v = w.before.before.before in
     rw (
-      said-yes v.before.counts-ok.ensures v.if1.false,
-      eq-eqb _ _ w.if2.false,
-      not-true v.before.before.args.last.ok c.if3.true,
+      said-yes v.before.counts_ok.ensures v.if-not-counts_ok.false-raw,
+      eq-eqb _ _ w.if-last-q.false,
+      not-true v.before.before.args.last.ok c.if-not-last.true,
     ))
     (λ c. let w = c.before.before in let v = w.before.before.before in
     rw (
-      said-yes v.before.counts-ok.ensures v.if1.false,
-      eq-eqb _ _ w.if2.false,
-      not-false v.before.before.args.last.ok c.if3.false,
+      said-yes v.before.counts_ok.ensures v.if-not-counts_ok.false-raw,
+      eq-eqb _ _ w.if-last-q.false,
+      not-false v.before.before.args.last.ok c.if-not-last.false,
     )))

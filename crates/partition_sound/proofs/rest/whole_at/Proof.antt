@@ -9,9 +9,9 @@ use Rattle.rules.specs.Limits.{partitions_max}
 use Rattle.partition_sound.proofs.rest.whole_at.Statement.{statement}
 use Rattle.partition_sound.proofs.rest.whole_at.Tie as tie
 
-returns_2 : tie.Need-returns-2
+returns_2 : tie.Need-returns-else-p-lt-PARTITIONS_MAX
 returns_2 c = let u = c.before in let s = u.args in
-    let n : length s.whole ≡ partitions_max = good_length e_bool 8 s.whole _ u.well-formed.0 in
+    let n : length s.whole ≡ partitions_max = good_length e_bool 8 s.whole _ u.well_formed.0 in
     sym (set_out s.whole s.p _ (omega arith))
 
 pub whole_at_spec : {M : Type 1} → statement M

@@ -6,23 +6,23 @@ use borrow.Author.Rules.{rules}
 use Rattle.rewrite.proofs.copying.apart.Statement.{statement}
 use Rattle.rewrite.proofs.copying.apart.Tie as tie
 
-returns : tie.Need-returns
-returns c = let a = c.before.args in sym (apart-short a.from a.to a.n c.if1.true)
+returns : tie.Need-returns-then-n-lt-ROWS_MAX
+returns c = let a = c.before.args in sym (apart-short a.from a.to a.n c.if-n-lt-ROWS_MAX.true)
 
-returns_2 : tie.Need-returns-2
-returns_2 c = let a = c.before.before.args in sym (apart_from a.from a.to a.n c.if2.true)
+returns_2 : tie.Need-returns-then-n-from
+returns_2 c = let a = c.before.before.args in sym (apart_from a.from a.to a.n c.if-n-from.true)
 
-returns_3 : tie.Need-returns-3
+returns_3 : tie.Need-returns-then-n-to
 returns_3 c = let a = c.before.before.before.args in sym (apart-to a.from a.to a.n
-    c.if3.true)
+    c.if-n-to.true)
 
-returns_4 : tie.Need-returns-4
+returns_4 : tie.Need-returns-then-from-to
 returns_4 c = let t = c.before in let f = t.before in let l = f.before in let a = l.before.args in
-    sym (apart-before a.from a.to a.n l.if1.false f.if2.false t.if3.false c.if4.true)
+    sym (apart-before a.from a.to a.n l.if-n-lt-ROWS_MAX.false f.if-n-from.false t.if-n-to.false c.if-from-to.true)
 
-returns_5 : tie.Need-returns-5
+returns_5 : tie.Need-returns
 returns_5 c = let t = c.before in let f = t.before in let l = f.before in let a = l.before.args in
-    sym (apart-after a.from a.to a.n l.if1.false f.if2.false t.if3.false c.if4.false)
+    sym (apart-after a.from a.to a.n l.if-n-lt-ROWS_MAX.false f.if-n-from.false t.if-n-to.false c.if-from-to.false)
 
 pub apart_spec : {M : Type 1} → statement M
 apart_spec =

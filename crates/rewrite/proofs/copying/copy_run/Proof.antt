@@ -12,29 +12,29 @@ use borrow.Author.Rules.{rules}
 use Rattle.rewrite.proofs.copying.copy_run.Statement.{statement}
 use Rattle.rewrite.proofs.copying.copy_run.Tie as tie
 
-abbrev invariant_loop : tie.invariant_loop
+abbrev invariant_loop : tie.invariant-loop-j
 invariant_loop rows₀ src dst n j₀ rows j = (j ≤ n) × (length rows ≡ length rows₀) ×
     (rows ≡ over dst (part src j rows₀) rows₀)
 
-abbrev decreases_loop : tie.decreases_loop
+abbrev decreases_loop : tie.decreases-loop-j
 decreases_loop rows₀ src dst n j₀ rows j = n - j
 
-loop-holds : tie.Need-loop-init invariant_loop decreases_loop
+loop-holds : tie.Need-loop-j-init invariant_loop decreases_loop
 loop-holds c = let a = c.args in
     (search rules, refl, sym (over-nil a.dst a.rows.now))
 
-loop-again : tie.Need-loop-preserved invariant_loop decreases_loop
-loop-again c = let s = c.before.before.before in let a = s.args in let l = c.before.before.loop in (
+loop-again : tie.Need-loop-j-preserved invariant_loop decreases_loop
+loop-again c = let s = c.before.before.before in let a = s.args in let l = c.before.before.loop-j in (
   search rules,
   search rules,
   rw l.invariant.2
       (run-next a.src a.dst a.n a.rows.now s.requires.0 s.requires.1 s.requires.2 l.j
-      c.before.loop-test.true),
+      c.before.loop-j-test.true),
 )
 
 returns : tie.Need-returns invariant_loop decreases_loop
-returns c = let all : c.before.loop.j ≡ c.before.before.args.n = omega arith in rw all at
-    c.before.loop.invariant.2
+returns c = let all : c.before.loop-j.j ≡ c.before.before.args.n = omega arith in rw all at
+    c.before.loop-j.invariant.2
 
 pub copy_run_spec : {M : Type 1} → statement M
 copy_run_spec =

@@ -15,37 +15,37 @@ use borrow.Author.Rules.{rules}
 use Rattle.rewrite.proofs.ends.ends_fit.Statement.{statement}
 use Rattle.rewrite.proofs.ends.ends_fit.Tie as tie
 
-abbrev invariant_loop : tie.invariant_loop
+abbrev invariant_loop : tie.invariant-loop-k
 invariant_loop n a from₀ k₀ from k = (k ≤ n) × (length a.at ≡ entries_max)
     × (ends_fit 0 (take n a.at) ≡ ends_fit from (drop k (take n a.at)))
 
-abbrev decreases_loop : tie.decreases_loop
+abbrev decreases_loop : tie.decreases-loop-k
 decreases_loop n a from₀ k₀ from k = n - k
 
-loop-holds : tie.Need-loop-init invariant_loop decreases_loop
-loop-holds c = (search rules, area-length c.args.t1 _ c.well-formed.0, refl)
+loop-holds : tie.Need-loop-k-init invariant_loop decreases_loop
+loop-holds c = (search rules, area-length c.args.a _ c.well_formed.0, refl)
 
-returns : tie.Need-returns invariant_loop decreases_loop
+returns : tie.Need-returns-then-e-from invariant_loop decreases_loop
 unfolding ends_fit
-returns c = let k = c.before.before.before in let a = k.before.before.args in let l = k.before.loop in
+returns c = let k = c.before.before.before in let a = k.before.before.args in let l = k.before.loop-k in
     sym (l.invariant.2 ∙ rw (
-      used-next a.t1.at a.n entries_max l.invariant.1 none l.k (omega arith),
-      lt-leb _ _ c.if1.true,
+      used-next a.a.at a.n entries_max l.invariant.1 none l.k (omega arith),
+      lt-leb _ _ c.if-e-from.true,
     ))
 
-loop-again : tie.Need-loop-preserved invariant_loop decreases_loop
+loop-again : tie.Need-loop-k-preserved invariant_loop decreases_loop
 unfolding ends_fit
-loop-again c = let k = c.before.before.before in let a = k.before.before.args in let l = k.before.loop in (
+loop-again c = let k = c.before.before.before in let a = k.before.before.args in let l = k.before.loop-k in (
   search rules,
   search rules,
   l.invariant.2
-      ∙ rw (used-next a.t1.at a.n entries_max l.invariant.1 none l.k (omega arith), le-leb _ _ c.if1.false),
+      ∙ rw (used-next a.a.at a.n entries_max l.invariant.1 none l.k (omega arith), le-leb _ _ c.if-e-from.false),
 )
 
-returns_2 : tie.Need-returns-2 invariant_loop decreases_loop
+returns_2 : tie.Need-returns invariant_loop decreases_loop
 unfolding ends_fit
-returns_2 c = let l = c.before.loop in let a = c.before.before.args in
-    sym (l.invariant.2 ∙ rw (used-end a.t1.at a.n entries_max l.invariant.1 l.k (omega arith)))
+returns_2 c = let l = c.before.loop-k in let a = c.before.before.args in
+    sym (l.invariant.2 ∙ rw (used-end a.a.at a.n entries_max l.invariant.1 l.k (omega arith)))
 
 pub ends_fit_spec : {M : Type 1} → statement M
 ends_fit_spec =

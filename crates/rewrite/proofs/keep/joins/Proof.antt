@@ -5,14 +5,16 @@ use mathlib.Core.Bool.{and-false}
 use Rattle.rewrite.proofs.keep.joins.Statement.{statement}
 use Rattle.rewrite.proofs.keep.joins.Tie as tie
 
-returns : tie.Need-returns
-returns c = simp (eq-eqb _ _ c.if1.true)
+returns : tie.Need-returns-then-x-eq1
+returns c = simp (eq-eqb _ _ c.if-x-eq1.true)
 
-returns_2 : tie.Need-returns-2
-returns_2 c = simp (eq-eqb _ _ c.if2.true, and-false)
+returns_2 : tie.Need-returns-then-e-eq1
+returns_2 c = simp (eq-eqb _ _ c.if-e-eq1.true, and-false)
 
-returns_3 : tie.Need-returns-3
-returns_3 c = simp (ne_eqb _ _ c.before.before.before.if1.false, ne_eqb _ _ c.before.if2.false)
+returns_3 : tie.Need-returns
+returns_3 c = simp (ne_eqb _ _ c.before.before.before.if-x-eq1.false, ne_eqb _ _ c.before.if-e-eq1.false)
 
 pub joins_spec : {M : Type 1} → statement M
-joins_spec = tie.close (tie.spec returns returns_2 returns_3)
+joins_spec = tie.close (tie.spec returns
+    returns_2
+    returns_3)

@@ -5,11 +5,11 @@ use borrow.Author.Rules.{rules}
 use Rattle.rewrite.proofs.keep.push.Statement.{statement}
 use Rattle.rewrite.proofs.keep.push.Tie as tie
 
-returns : tie.Need-returns
-returns c = simp (eq-eqb _ _ c.if1.true)
+returns : tie.Need-returns-then-e-eq1
+returns c = simp (eq-eqb _ _ c.if-e-eq1.true)
 
-returns_2 : tie.Need-returns-2
-returns_2 c = simp (ne_eqb _ _ c.if1.false)
+returns_2 : tie.Need-returns
+returns_2 c = simp (ne_eqb _ _ c.if-e-eq1.false)
 
 pub push_spec : {M : Type 1} → statement M
 push_spec =

@@ -29,11 +29,11 @@ few v = rw v.before.reply_of-reply.ensures (simp length-append (omega arith))
 
 returns : tie.Need-returns-in-Scan
 returns c = let k = c.before.before.before.before.before.before in let v = W k in let a = (S v).args in
-    let z = k.before.before.before.command-1.given in let w = c.before.before.print_line in
+    let z = k.before.before.before.in-Scan in let w = c.before.before.print_line in
     let h = k.shown_rows-n in
     scan-printed a.command a.answer a.partitions a.bitmap.now a.rows.now a.numbers.now
     a.out.now _ v.before.reply_of-reply.result v.before.before.letter_of-letter.ensures v.before.reply_of-reply.ensures
-    _ _ _ w.ensures.0 w.ensures.1 z.0.0 z.0.1.0 _ _ _ z.1
+    _ _ _ w.ensures.0 w.ensures.1 z.reader z.partition _ _ _ z.is
     (ap (λ (q : Partition). q.area) k.before.before.partition_at-q.ensures) refl h.ensures.0 h.ensures.1
 
 returns_2 : tie.Need-returns-in_default
@@ -54,7 +54,7 @@ print_answer_spec =
     (λ c. search rules)
     (λ c κs. search rules)
     (λ c. ends c.before.before)
-    (λ c. sym (length-take-le _ _ (ends c.before.before.before)))
+    (λ c. sym (length-take-le _ _ (ends c.before.before)))
     (λ c κs. search rules)
     (λ c. few c.before)
     (λ c. sym (length-take-le _ _ (few c.before.before)))

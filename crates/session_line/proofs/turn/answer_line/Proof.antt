@@ -30,7 +30,7 @@ add-seek c = let s = c.before.before.before.before.before in let i = I s in
       fits = omega (
         arith,
         within i,
-        (S i).good,
+        (S i).well_formed,
         size_fits (said i) (S i).args.out.now i.in_use-written.result
             s.say-size.result s.say-size.ensures.0,
       );

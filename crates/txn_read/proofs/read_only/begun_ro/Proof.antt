@@ -15,7 +15,7 @@ returns : tie.Need-returns
 returns c =
     let ps = c.args.readers in
     let p = pushed no_ro ps.at readers_max ps.count (ro_txn ps.next c.args.at)
-    (readers_32 ps _ c.well-formed.0) c.requires.1 c.requires.0.0 in
+    (readers_32 ps _ c.well_formed.0) c.requires.1 c.requires.0.0 in
     rw (p.0, p.1, add-one ps.next)
 
 pub begun_ro_spec : {M : Type 1} → statement M

@@ -13,52 +13,52 @@ use Rattle.txn_start.proofs.Laws.Begin.{Filled, filled_none, fill, pass}
 use Rattle.txn_start.proofs.start.put_deps.Statement.{statement}
 use Rattle.txn_start.proofs.start.put_deps.Tie as tie
 
-abbrev invariant_loop : tie.invariant_loop
+abbrev invariant_loop : tie.invariant-loop-j
 invariant_loop deps₀ ts n from k₀ j₀ deps k j =
     (j ≤ n) × (k ≤ j) × (n < writers_max) × (from ≡ deps_max * n) × (length ts.at ≡ writers_max)
     × (length deps₀ ≡ deps_all) × Filled ts.at deps₀ from j deps k
 
-abbrev decreases_loop : tie.decreases_loop
+abbrev decreases_loop : tie.decreases-loop-j
 decreases_loop deps₀ ts n from k₀ j₀ deps k j = n - j
 
-loop-holds : tie.Need-loop-init invariant_loop decreases_loop
+loop-holds : tie.Need-loop-j-init invariant_loop decreases_loop
 loop-holds c = (
   omega arith,
   omega arith,
   c.requires.0,
   refl,
-  writers_32 c.args.t1 _ c.well-formed.0,
+  writers_32 c.args.ts _ c.well_formed.0,
   c.requires.1,
-  filled_none c.args.t1.at c.args.deps.now _,
+  filled_none c.args.ts.at c.args.deps.now _,
 )
 
-loop-again : tie.Need-loop-preserved invariant_loop decreases_loop
+loop-again : tie.Need-loop-j-preserved invariant_loop decreases_loop
 loop-again c =
-    let l = c.before.before.before.before in let a = l.loop in let s = l.before.args in
-    let h : a.j < length s.t1.at = omega (arith, a.invariant.4) in
+    let l = c.before.before.before.before in let a = l.loop-j in let s = l.before.args in
+    let h : a.j < length s.ts.at = omega (arith, a.invariant.4) in
     ⊎_elim
-    (λ w. rw (w.1, w.2) (
+    (λ w. rw (w.deps-is, w.k-is) (
       omega arith,
       omega arith,
       a.invariant.2,
       refl,
       a.invariant.4,
       a.invariant.5,
-      fill a.invariant.6 h (eq-eqb _ _ w.0.taken) (omega (arith, a.invariant.5)),
+      fill a.invariant.6 h (eq-eqb _ _ w.if-t-eq0.true) (omega (arith, a.invariant.5)),
     ))
-    (λ w. rw (w.1, w.2) (
+    (λ w. rw (w.deps-is, w.k-is) (
       omega arith,
       omega arith,
       a.invariant.2,
       refl,
       a.invariant.4,
       a.invariant.5,
-      pass a.invariant.6 h (ne_eqb _ _ w.0.left),
+      pass a.invariant.6 h (ne_eqb _ _ w.if-t-eq0.false),
     ))
-    c.if1.branch
+    c.if-t-eq0.branch-raw
 
 returns : tie.Need-returns invariant_loop decreases_loop
-returns c = let a = c.before.loop in let e : a.j ≡ c.before.before.args.t1.count = omega arith in
+returns c = let a = c.before.loop-j in let e : a.j ≡ c.before.before.args.ts.count = omega arith in
     (a.invariant.6.used ∙ rw e, a.invariant.6.held ∙ rw e)
 
 pub put_deps_spec : {M : Type 1} → statement M

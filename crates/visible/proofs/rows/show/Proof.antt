@@ -72,7 +72,7 @@ next c = let r = c.before.before.fill-count in let b = c.before.before.before.be
     (turn (this c)).next b.result r.result r.new.shown b.ensures r.ensures.0 r.ensures.1
 
 add-count : tie.Need-overflow_add-count invariant_loop decreases_loop
-add-count c = omega (arith, (next c).few, (turn (this c)).high, (S (this c)).good)
+add-count c = omega (arith, (next c).few, (turn (this c)).high, (S (this c)).well_formed)
 
 loop-again : tie.Need-loop-i-preserved invariant_loop decreases_loop
 loop-again c = (
