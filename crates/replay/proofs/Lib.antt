@@ -1,4 +1,3 @@
 pub mod Laws
 pub mod Session
-pub mod Types
 pub mod Turning

@@ -13,27 +13,28 @@ use Rattle.plan_purge.proofs.purge_core.Tie as tie
 
 -- where the test of soundness was made, and where the function began
 
-abbrev tested : tie.After-admit → tie.After-parts-sound
+
+abbrev tested : tie.After-admit-admitted → tie.After-parts_sound-sound
 tested a = a.before.before
 
-abbrev start : tie.After-admit → tie.Start
-start a = (tested a).before.before.before.before.before.before.before
+abbrev start : tie.After-admit-admitted → tie.Start
+start a = (tested a).before.before.before.before.before.before
 
-sound : (a : tie.After-admit) → let s = start a in
-    (tested a).parts-sound.result ≡ (s.args.rest && manager_ok (manager_in s.args.t1))
+sound : (a : tie.After-admit-admitted) → let s = start a in
+    (tested a).parts_sound-sound.result ≡ (s.args.rest && manager_ok (manager_in s.args.state))
 sound a = let s = start a in
-    parts-sound-is (manager_in s.args.t1) s.args.rest (sized s.args.t1 s.good.0)
-    (tested a).parts-sound.ensures
+    parts-sound-is (manager_in s.args.state) s.args.rest (sized s.args.state s.well_formed.0)
+    (tested a).parts_sound-sound.ensures
 
-returns : tie.Need-returns
+returns : tie.Need-returns-in-Not
 unfolding purge_plan
-returns c = let k = c.before.before in let a = k.before.before in
-    rw (← sound a, ← a.admit.ensures, k.admitted.given.1) c.unwritten.ensures
+returns c = let k = c.before in let a = k.before in
+    rw (← sound a, ← a.admit-admitted.ensures, k.in-Not.is) c.unwritten.ensures
 
-returns_2 : tie.Need-returns-2
+returns_2 : tie.Need-returns-in-To
 unfolding purge_plan
-returns_2 c = let k = c.before.before in let a = k.before.before in
-    rw (← sound a, ← a.admit.ensures, k.admitted2.given.1) c.purge-at.ensures
+returns_2 c = let k = c.before in let a = k.before in
+    rw (← sound a, ← a.admit-admitted.ensures, k.in-To.is) c.purge_at.ensures
 
 pub purge_core_spec : {M : Type 1} → statement M
 purge_core_spec =

@@ -14,23 +14,23 @@ use Rattle.plan_save.proofs.Laws.Words.{own-part}
 use Rattle.plan_save.proofs.put_lots.Statement.{statement}
 use Rattle.plan_save.proofs.put_lots.Tie as tie
 
-abbrev invariant_loop : tie.invariant_loop
+abbrev invariant_loop : tie.invariant-loop-p
 invariant_loop out₀ start rows ws bases at₀ p₀ out at p =
     (p ≤ partitions_max) × (length ws ≡ words_max) × (length bases ≡ partitions_max) × (length out ≡ length out₀)
     × (put_to at out ≡ lots_put bases ws rows (put_to at₀ out₀) p)
 
-abbrev decreases_loop : tie.decreases_loop
+abbrev decreases_loop : tie.decreases-loop-p
 decreases_loop out₀ start rows ws bases at₀ p₀ out at p = partitions_max - p
 
-loop-holds : tie.Need-loop-init invariant_loop decreases_loop
+loop-holds : tie.Need-loop-p-init invariant_loop decreases_loop
 unfolding lots_put
 loop-holds c = (omega arith, search rules, search rules, refl, refl)
 
-loop-again : tie.Need-loop-preserved invariant_loop decreases_loop
+loop-again : tie.Need-loop-p-preserved invariant_loop decreases_loop
 unfolding lots_put
-loop-again c = let l = c.before.before.before.before.before.before.loop in
+loop-again c = let l = c.before.before.before.before.before.before.loop-p in
     let a = c.before.before.before.before.before.before.before.before.before.before.args in
-    let p = c.before.before.put-runs.ensures in (
+    let p = c.before.before.put_runs-at.ensures in (
       omega arith,
       l.invariant.1,
       l.invariant.2,
@@ -39,7 +39,7 @@ loop-again c = let l = c.before.before.before.before.before.before.loop in
     )
 
 returns : tie.Need-returns invariant_loop decreases_loop
-returns c = let l = c.before.loop in let all : l.p ≡ partitions_max = omega arith in
+returns c = let l = c.before.loop-p in let all : l.p ≡ partitions_max = omega arith in
     ap (λ x. x.out) (rw all at l.invariant.4)
 
 pub put_lots_spec : {M : Type 1} → statement M

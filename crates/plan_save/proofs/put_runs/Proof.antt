@@ -15,13 +15,13 @@ use Rattle.plan_save.proofs.Laws.Words.{runs-next, runs_stop, runs_none}
 use Rattle.plan_save.proofs.put_runs.Statement.{statement}
 use Rattle.plan_save.proofs.put_runs.Tie as tie
 
-abbrev invariant_loop : tie.invariant_loop
+abbrev invariant_loop : tie.invariant-loop-i
 invariant_loop out₀ start rows base ws at₀ i₀ out at i =
     (i ≤ length ws) × (base ≤ rows_max * areas_max) × (length out ≡ length out₀)
     × (foldl (run_put base rows) (put_to at out) (runs_in (drop i ws))
     ≡ foldl (run_put base rows) (put_to at₀ out₀) (runs_in ws))
 
-abbrev decreases_loop : tie.decreases_loop
+abbrev decreases_loop : tie.decreases-loop-i
 decreases_loop out₀ start rows base ws at₀ i₀ out at i = length ws - i
 
 -- where base is a row of those lent
@@ -30,26 +30,26 @@ puts : (base : ℕ) (rows ws : List ℕ) (x : Put) → base ≤ rows_max * areas
 unfolding runs_put
 puts base rows ws x h = rw (le-ltb (rows_max * areas_max) base h)
 
-returns : tie.Need-returns invariant_loop decreases_loop
+returns : tie.Need-returns-then-base-gt-ROWS_LENT invariant_loop decreases_loop
 unfolding runs_put
 returns c = let a = c.before.before.before.before.args in
-    let h = lt-ltb (rows_max * areas_max) a.base c.if1.true in (rw h, rw h)
+    let h = lt-ltb (rows_max * areas_max) a.base c.if-base-gt-ROWS_LENT.true in (rw h, rw h)
 
-loop-holds : tie.Need-loop-init invariant_loop decreases_loop
+loop-holds : tie.Need-loop-i-init invariant_loop decreases_loop
 loop-holds c = (omega arith, search rules, refl, refl)
 
-returns_2 : tie.Need-returns-2 invariant_loop decreases_loop
-returns_2 c = let k = c.before.width-in.ensures in let l = c.before.before.before.before.loop in
+returns_2 : tie.Need-returns-then-k-eq0 invariant_loop decreases_loop
+returns_2 c = let k = c.before.width_in-k.ensures in let l = c.before.before.before.before.loop-i in
     let a = c.before.before.before.before.before.before.before.before.before.args in
     let z = rw (runs_stop a.ws.now l.i (omega arith) (omega arith)) at l.invariant.3 in
     let e = z ∙ sym (puts a.base a.rows.now a.ws.now (put_to a.start a.out.now) l.invariant.1) in
     (ap (λ x. x.at) e, ap (λ x. x.out) e)
 
-loop-again : tie.Need-loop-preserved invariant_loop decreases_loop
-loop-again c = let p = c.before.before.put-rows.ensures in
-    let f = c.before.before.before.before.from_in.ensures in
-    let k = c.before.before.before.before.before.before.width-in.ensures in
-    let l = c.before.before.before.before.before.before.before.before.before.loop in
+loop-again : tie.Need-loop-i-preserved invariant_loop decreases_loop
+loop-again c = let p = c.before.before.put_rows-at.ensures in
+    let f = c.before.before.before.before.from_in-from.ensures in
+    let k = c.before.before.before.before.before.before.width_in-k.ensures in
+    let l = c.before.before.before.before.before.before.before.before.before.loop-i in
     let a = c.before.before.before.before.before.before.before.before.before.before.before.before.before.before.args in (
       omega arith,
       l.invariant.1,
@@ -57,8 +57,8 @@ loop-again c = let p = c.before.before.put-rows.ensures in
       rw (p.0, p.1, f, k.0) (rw (runs-next a.ws.now l.i (omega arith) (omega arith)) at l.invariant.3),
     )
 
-returns_3 : tie.Need-returns-3 invariant_loop decreases_loop
-returns_3 c = let l = c.before.loop in let a = c.before.before.before.before.before.before.args in
+returns_3 : tie.Need-returns invariant_loop decreases_loop
+returns_3 c = let l = c.before.loop-i in let a = c.before.before.before.before.before.before.args in
     let z = rw (drop_of_length-le a.ws.now {i = l.i} (omega arith), runs_none) at l.invariant.3 in
     let e = z ∙ sym (puts a.base a.rows.now a.ws.now (put_to a.start a.out.now) l.invariant.1) in
     (ap (λ x. x.at) e, ap (λ x. x.out) e)

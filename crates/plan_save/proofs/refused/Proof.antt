@@ -4,4 +4,5 @@ use Rattle.plan_save.proofs.refused.Statement.{statement}
 use Rattle.plan_save.proofs.refused.Tie as tie
 
 pub refused_spec : {M : Type 1} → statement M
-refused_spec = tie.close (tie.spec (λ c κs. search rules) (λ c. rw c.no_words.ensures))
+refused_spec = tie.close (tie.spec (λ c κs. search rules)
+    (λ c. rw c.no_words-none.ensures))

@@ -7,11 +7,11 @@ use Rattle.plan_save.specs.Save.{save_written}
 use Rattle.plan_save.proofs.write_checkpoint.Statement.{statement}
 use Rattle.plan_save.proofs.write_checkpoint.Tie as tie
 
-returns_2 : tie.Need-returns-2
+returns_2 : tie.Need-returns
 unfolding save_written
-returns_2 c = let h = c.before.before.before.before.before.before.before.before.before in
-    let e = h.before.before.before.before in let w = e.before.before.before.args.t3 in
-    rw (ne_eqb w.size 0 e.if1.false, ← h.put-header.ensures) c.before.before.put-lots.ensures
+returns_2 c = let h = c.before.before.before.before.before.before.before.before in
+    let e = h.before.before.before.before in let w = e.before.before.before.args.w in
+    rw (ne_eqb w.size 0 e.if-w-eq0.false, ← h.put_header.ensures) c.before.before.put_lots.ensures
 
 pub write_checkpoint_spec : {M : Type 1} → statement M
 unfolding save_written

@@ -29,68 +29,67 @@ deps-read m i {j} w = let e : min j writers_max ≡ j = omega (arith, w.below) i
     rw e (sym (ap (λ x. x.deps) (w.first no_writer)))
 
 -- where the test of soundness was made, and where the function began
-
-abbrev tested : tie.After-admit → tie.After-parts-sound
+abbrev tested : tie.After-admit-admitted → tie.After-parts_sound-sound
 tested a = a.before.before
 
-abbrev start : tie.After-admit → tie.Start
-start a = (tested a).before.before.before.before.before.before.before
+abbrev start : tie.After-admit-admitted → tie.Start
+start a = (tested a).before.before.before.before.before.before
 
-sound : (a : tie.After-admit) → let s = start a in
-    (tested a).parts-sound.result ≡ (s.args.rest && manager_ok (manager_in s.args.t1))
+sound : (a : tie.After-admit-admitted) → let s = start a in
+    (tested a).parts_sound-sound.result ≡ (s.args.rest && manager_ok (manager_in s.args.state))
 sound a = let s = start a in
-    parts-sound-is (manager_in s.args.t1) s.args.rest (sized s.args.t1 s.good.0)
-    (tested a).parts-sound.ensures
+    parts-sound-is (manager_in s.args.state) s.args.rest (sized s.args.state s.well_formed.0)
+    (tested a).parts_sound-sound.ensures
 
-returns : tie.Need-returns
+returns : tie.Need-returns-in_default
 unfolding rw_look
-returns c = let t = c.before in let f = t.before.before in let k = f.before.before.before in
-    let a = k.before.before in
+returns c = let t = c.before in let f = t.before in let k = f.before.before in
+    let a = k.before in
     rw (
       ← sound a,
-      ← a.admit.ensures,
-      k.admitted2.given.1,
-      (writer-none (manager_in (start a).args.t1) _ f.find-writer.ensures t.enum_told.given.1).any,
+      ← a.admit-admitted.ensures,
+      k.in-To.is,
+      (writer-none (manager_in (start a).args.state) _ f.find_writer.ensures t.in_default.is).any,
     )
-    c.refused2.ensures
+    c.refused-in_default.ensures
 
-mul-n : tie.Need-overflow-mul-n
-mul-n c = let j = c.before in let f = j.before.before in let s = start f.before.before.before.before.before in
+mul-n : tie.Need-offset_bounds-writers-j
+mul-n c = let j = c in let f = j.before in let s = start f.before.before.before in
     omega (
       arith,
-      (writer-stands (manager_in s.args.t1) _ (sized s.args.t1 s.good.0)
-          f.find-writer.ensures j.j.given.1).below,
+      (writer-stands (manager_in s.args.state) _ (sized s.args.state s.well_formed.0)
+          f.find_writer.ensures j.in-At.is).below,
     )
 
-element-copy-out-n : tie.Need-element-copy-out-n
-element-copy-out-n c = let j = c.before in let f = j.before.before in
-    let s = start f.before.before.before.before.before in
+element-copy-out-n : tie.Need-bounds-writers-j
+element-copy-out-n c = let j = c in let f = j.before in
+    let s = start f.before.before.before in
     omega (
       arith,
-      (writer-stands (manager_in s.args.t1) _ (sized s.args.t1 s.good.0)
-          f.find-writer.ensures j.j.given.1).below,
+      (writer-stands (manager_in s.args.state) _ (sized s.args.state s.well_formed.0)
+          f.find_writer.ensures j.in-At.is).below,
     )
 
-returns_2 : tie.Need-returns-2
+returns_2 : tie.Need-returns-in-Not
 unfolding rw_look
-returns_2 c = let k = c.before.before in let a = k.before.before in
-    rw (← sound a, ← a.admit.ensures, k.admitted.given.1) c.refused.ensures
+returns_2 c = let k = c.before in let a = k.before in
+    rw (← sound a, ← a.admit-admitted.ensures, k.in-Not.is) c.refused.ensures
 
-returns_3 : tie.Need-returns-3
+returns_3 : tie.Need-returns-in-At
 unfolding rw_look
 returns_3 c = let d = c.before in
-    let j = d.before.before.before.before.before in let f = j.before.before in
-    let k = f.before.before.before in let a = k.before.before in let s = start a in
-    let m = manager_in s.args.t1 in
-    let w = writer-stands m _ (sized s.args.t1 s.good.0) f.find-writer.ensures j.j.given.1 in
+    let j = d.before.before.before in let f = j.before in
+    let k = f.before.before in let a = k.before in let s = start a in
+    let m = manager_in s.args.state in
+    let w = writer-stands m _ (sized s.args.state s.well_formed.0) f.find_writer.ensures j.in-At.is in
     rw (
       ← sound a,
-      ← a.admit.ensures,
-      k.admitted2.given.1,
+      ← a.admit-admitted.ensures,
+      k.in-To.is,
       w.any,
       ← deps-read m s.args.i w,
       ← d.row_of.ensures,
-    ) c.scan-partition.ensures
+    ) c.scan_partition.ensures
 
 pub rw_core_spec : {M : Type 1} → statement M
 rw_core_spec =

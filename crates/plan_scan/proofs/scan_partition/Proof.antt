@@ -10,17 +10,17 @@ use Rattle.plan_scan.specs.Scan.{look_at}
 use Rattle.plan_scan.proofs.scan_partition.Statement.{statement}
 use Rattle.plan_scan.proofs.scan_partition.Tie as tie
 
-returns : tie.Need-returns
+returns : tie.Need-returns-then-k-count
 unfolding look_at
 returns c = c.refused.ensures
-    ∙ rw (lt-ltb _ _ (rw c.before.before.bytes-for.ensures at c.before.if1.true))
+    ∙ rw (lt-ltb _ _ (rw c.before.before.bytes_for-count.ensures at c.before.if-k-count.true))
 
-returns_2 : tie.Need-returns-2
+returns_2 : tie.Need-returns
 unfolding look_at
 returns_2 c =
-    let f = c.before.before.before in let n = f.before.bytes-for in let a = f.before.before.before.args in
-    let r = c.before.scan.ensures in
-    rw (le-ltb a.k (bytes_for a.q.rows) (rw n.ensures at f.if1.false))
+    let f = c.before.before.before in let n = f.before.bytes_for-count in let a = f.before.before.before.args in
+    let r = c.before.scan-done.ensures in
+    rw (le-ltb a.k (bytes_for a.q.rows) (rw n.ensures at f.if-k-count.false))
     (λ j. record { answer = Scanned a.q.rows (r.0 j).ones; bits = r.1 j; count = n.ensures j })
 
 pub scan_partition_spec : {M : Type 1} → statement M

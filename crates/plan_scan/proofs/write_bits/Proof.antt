@@ -16,29 +16,29 @@ use Rattle.plan_scan.proofs.Laws.Scan.{look-length}
 use Rattle.plan_scan.proofs.write_bits.Statement.{statement}
 use Rattle.plan_scan.proofs.write_bits.Tie as tie
 
-abbrev invariant_loop : tie.invariant_loop
+abbrev invariant_loop : tie.invariant-loop-i
 invariant_loop bitmap₀ n bits i₀ bitmap i =
     (i ≤ n) × (n ≤ bitmap_max) × (n ≤ length bitmap₀) × (length bits ≡ bitmap_max) × (length bitmap ≡ length bitmap₀)
     × (bitmap ≡ take i bits ++ drop i bitmap₀)
 
-abbrev decreases_loop : tie.decreases_loop
+abbrev decreases_loop : tie.decreases-loop-i
 decreases_loop bitmap₀ n bits i₀ bitmap i = n - i
 
-returns : tie.Need-returns invariant_loop decreases_loop
+returns : tie.Need-returns-then-n-gt-BITMAP_MAX invariant_loop decreases_loop
 unfolding copied
-returns c = rw (lt-leb _ _ c.if1.true)
+returns c = rw (lt-leb _ _ c.if-n-gt-BITMAP_MAX.true)
 
-returns_2 : tie.Need-returns-2 invariant_loop decreases_loop
+returns_2 : tie.Need-returns-then-bitmap-n invariant_loop decreases_loop
 unfolding copied
-returns_2 c = rw (lt-leb _ _ c.if2.true, and-false)
+returns_2 c = rw (lt-leb _ _ c.if-bitmap-n.true, and-false)
 
-loop-holds : tie.Need-loop-init invariant_loop decreases_loop
+loop-holds : tie.Need-loop-i-init invariant_loop decreases_loop
 loop-holds c = let s = c.before.before.before in
-    (omega arith, omega arith, omega arith, look-length s.args.w _ s.well-formed.1.0, refl, refl)
+    (omega arith, omega arith, omega arith, look-length s.args.w _ s.well_formed.1.0, refl, refl)
 
-loop-again : tie.Need-loop-preserved invariant_loop decreases_loop
+loop-again : tie.Need-loop-i-preserved invariant_loop decreases_loop
 loop-again c =
-    let l = c.before.loop in let a = c.before.before.before.before.before.args in
+    let l = c.before.loop-i in let a = c.before.before.before.before.before.args in
     let m = l.invariant.3 in let n = l.invariant.1 in let o = l.invariant.2 in (
       omega arith,
       l.invariant.1,
@@ -49,10 +49,10 @@ loop-again c =
           (put_next a.w.bits a.bitmap.now l.i 0 (omega arith) (omega arith)),
     )
 
-returns_3 : tie.Need-returns-3 invariant_loop decreases_loop
+returns_3 : tie.Need-returns invariant_loop decreases_loop
 unfolding copied
 returns_3 c =
-    let l = c.before.loop in let a = c.before.before.before.before.before.args in
+    let l = c.before.loop-i in let a = c.before.before.before.before.before.args in
     let all : l.i ≡ a.w.count = omega arith in
     rw all at l.invariant.5 ∙ rw (le-leb _ _ l.invariant.1, le-leb _ _ l.invariant.2)
 

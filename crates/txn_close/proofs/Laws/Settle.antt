@@ -92,9 +92,11 @@ module _ (hi : ℕ) where
   kept_run (t ∷ ts) b r =
       let s = rises-split b hi t.epoch (epochs ts) r in let u = s.above in
       split (is_open t)
-      (λ o. let more = all_stay ts t.epoch b s.rest (omega arith) in rw (o, more))
+      (λ o. let more = all_stay ts t.epoch b s.rest (omega arith) in let at : run_lce b (t ∷ ts) ≡ b = rw o in
+      ap (λ c. keep_if (kept c) (t ∷ ts)) at ∙ rw (o, more))
       (λ n. let ih = kept_run ts t.epoch s.rest in let up = run_up ts t.epoch s.rest in
-      rw (n, le-ltb (run_lce t.epoch ts) t.epoch up) ih)
+      let at : run_lce b (t ∷ ts) ≡ run_lce t.epoch ts = rw n in
+      ap (λ c. keep_if (kept c) (t ∷ ts)) at ∙ rw (n, le-ltb (run_lce t.epoch ts) t.epoch up) ih)
 
 -- ---- the oldest open one
 

@@ -11,30 +11,30 @@ use Rattle.txn_close.proofs.Laws.Close.{closed-fits, closed-tidy, settled-are}
 use Rattle.txn_close.proofs.close_at.Statement.{statement}
 use Rattle.txn_close.proofs.close_at.Tie as tie
 
-returns : tie.Need-returns
-returns c = let f = c.before.before in rw (sym f.find-writer.ensures ∙ c.enum_told.given.1) (refl, refl)
+returns : tie.Need-returns-in_default
+returns c = let f = c.before in rw (sym f.find_writer.ensures ∙ c.in_default.is) (refl, refl)
 
-close_requires : tie.Need-close-requires
+close_requires : tie.Need-close-closed-requires
 close_requires c κs =
-    let j = c.before.before in let f = j.before.before in let s = f.before in let T = s.requires in let r = T.room in
-    let w = writer-below s.args.ts _ T.len f.find-writer.ensures j.j.given.1 in
-    let l : j.j.given.0.0 < s.args.ts.count = omega arith in
+    let j = c.before in let f = j.before in let s = f.before in let T = s.requires in let r = T.room in
+    let w = writer-below s.args.ts _ T.len f.find_writer.ensures j.in-At.is in
+    let l : j.in-At.j < s.args.ts.count = omega arith in
     (T, l)
 
-settle_requires : tie.Need-settle-requires
+settle_requires : tie.Need-settle-next-requires
 settle_requires c κs =
-    let k = c.before in let j = k.before.before.before in let s = j.before.before.before in
-    let e = k.close.ensures in
-    rw (e.0, e.1) (closed-tidy s.requires s.args.waits j.j.given.0.0 s.args.i)
+    let k = c.before in let j = k.before.before in let s = j.before.before in
+    let e = k.close-closed.ensures in
+    rw (e.0, e.1) (closed-tidy s.requires s.args.waits j.in-At.j s.args.i)
 
-returns_2 : tie.Need-returns-2
+returns_2 : tie.Need-returns
 returns_2 c =
-    let q = c.before.before in let k = q.before.before in let j = k.before.before.before in
-    let f = j.before.before in let s = f.before in let a = s.args in let e = k.close.ensures in
-    let ws = viewed a.ts a.deps.now in let n = j.j.given.0.0 in
+    let q = c.before.before in let k = q.before.before in let j = k.before.before in
+    let f = j.before in let s = f.before in let a = s.args in let e = k.close-closed.ensures in
+    let ws = viewed a.ts a.deps.now in let n = j.in-At.j in
     let is = settled-are a.clock (closed_txns a.waits n a.i ws) (closed-fits s.requires a.waits n a.i) _ _
-    _ _ e.0 e.1 q.settle.ensures in
-    rw (sym f.find-writer.ensures ∙ j.j.given.1) (ap ended_with is.0, is.1)
+    _ _ e.0 e.1 q.settle-next.ensures in
+    rw (sym f.find_writer.ensures ∙ j.in-At.is) (ap ended_with is.0, is.1)
 
 pub close_at_spec : {M : Type 1} → statement M
 close_at_spec =

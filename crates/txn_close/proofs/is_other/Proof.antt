@@ -5,4 +5,5 @@ use Rattle.txn_close.proofs.is_other.Statement.{statement}
 use Rattle.txn_close.proofs.is_other.Tie as tie
 
 pub is_other_spec : {M : Type 1} → statement M
-is_other_spec = tie.close (tie.spec (λ c. search tests) (λ c. search tests))
+is_other_spec = tie.close (tie.spec (λ c. search tests)
+    (λ c. search tests))

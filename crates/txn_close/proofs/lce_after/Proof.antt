@@ -17,30 +17,30 @@ use Rattle.txn_close.proofs.Laws.Settle.{lce-after-nil, lce-after-cons}
 use Rattle.txn_close.proofs.lce_after.Statement.{statement}
 use Rattle.txn_close.proofs.lce_after.Tie as tie
 
-abbrev invariant_loop : tie.invariant_loop
+abbrev invariant_loop : tie.invariant-loop-k
 invariant_loop lce i waits ts n last₀ k₀ last k = Scan ts.at ts.count writers_max n k
     × (lce_after waits i lce (map (view []) (take ts.count ts.at))
     ≡ lce_after waits i last (map (view []) (drop k (take ts.count ts.at))))
 
-abbrev decreases_loop : tie.decreases_loop
+abbrev decreases_loop : tie.decreases-loop-k
 decreases_loop lce i waits ts n last₀ k₀ last k = n - k
 
-returns : tie.Need-returns invariant_loop decreases_loop
-returns c = let l = c.before.before.before.loop.invariant in
+returns : tie.Need-returns-then-is_other invariant_loop decreases_loop
+returns c = let l = c.before.before.before.loop-k.invariant in
     sym (l.1 ∙ rw (
       scan-next l.0 no_rw (omega arith),
       lce-after-cons,
-      said c.before.is-other.ensures c.if1.true,
+      said c.before.is_other.ensures c.if-is_other.true,
     ))
 
-loop-again : tie.Need-loop-preserved invariant_loop decreases_loop
-loop-again c = let l = c.before.before.before.before.loop.invariant in (
+loop-again : tie.Need-loop-k-preserved invariant_loop decreases_loop
+loop-again c = let l = c.before.before.before.before.loop-k.invariant in (
   scan-on l.0 (omega arith),
   l.1 ∙ rw (
     scan-next l.0 no_rw (omega arith),
     lce-after-cons,
-    said c.before.before.is-other.ensures c.before.if1.false,
-    c.lce-past.ensures,
+    said c.before.before.is_other.ensures c.before.if-is_other.false,
+    c.lce_past-last.ensures,
   ),
 )
 
@@ -51,7 +51,7 @@ lce_after_spec =
     invariant_loop
     decreases_loop
     (λ c κs. omega arith)
-    (λ c. (scan-start (writers_32 c.before.args.t2 _ c.before.well-formed.1.0) c.in_use.ensures, refl))
+    (λ c. (scan-start (writers_32 c.before.args.ts _ c.before.well_formed.1.0) c.in_use-n.ensures, refl))
     (λ c. omega arith)
     (λ c. omega arith)
     (λ c. omega arith)
@@ -66,5 +66,5 @@ lce_after_spec =
     (λ c. omega arith)
     (λ c. omega arith)
     loop-again
-    (λ c. let l = c.before.loop.invariant in
+    (λ c. let l = c.before.loop-k.invariant in
     sym (l.1 ∙ rw (scan-end l.0 (omega arith), lce-after-nil))))

@@ -8,6 +8,6 @@ pub lce_past_spec : {M : Type 1} → statement M
 lce_past_spec =
     tie.close
     (tie.spec
-    (λ c. rw (eq-eqb _ _ c.before.if1.true, c.if2.true))
-    (λ c. rw (eq-eqb _ _ c.before.if1.true, c.if2.false))
-    (λ c. rw (ne_eqb _ _ c.if1.false)))
+    (λ c. rw (eq-eqb _ _ c.before.if-waiting-eq0.true, c.if-waits.true))
+    (λ c. rw (eq-eqb _ _ c.before.if-waiting-eq0.true, c.if-waits.false))
+    (λ c. rw (ne_eqb _ _ c.if-waiting-eq0.false)))

@@ -14,27 +14,27 @@ use Rattle.txn_close.proofs.Laws.Close.{ended_is}
 use Rattle.txn_close.proofs.roll_back.Statement.{statement}
 use Rattle.txn_close.proofs.roll_back.Tie as tie
 
-abbrev start : tie.After-parts-sound → tie.Start
-start p = p.before.before.before.before.before.before.before
+abbrev start : tie.After-parts_sound → tie.Start
+start p = p.before.before.before.before.before.before
 
-sound : (p : tie.After-parts-sound) → let a = (start p).args in
-    p.parts-sound.result ≡ (a.rest && manager_ok (manager_in a.state))
+sound : (p : tie.After-parts_sound) → let a = (start p).args in
+    p.parts_sound.result ≡ (a.rest && manager_ok (manager_in a.state))
 sound p = let s = start p in
-    parts-sound-is (manager_in s.args.state) s.args.rest (sized s.args.state s.good.0)
-    p.parts-sound.ensures
+    parts-sound-is (manager_in s.args.state) s.args.rest (sized s.args.state s.well_formed.0)
+    p.parts_sound.ensures
 
-close-at_requires : tie.Need-close-at-requires
+close-at_requires : tie.Need-close_at-e-requires
 close-at_requires c κs =
     let t = c.before.before.before in let s = start t.before in let m = manager_in s.args.state in
-    writers-tidy m (and_right s.args.rest (manager_ok m) (said (sound t.before) t.if1.true))
-    (sized s.args.state s.good.0)
+    writers-tidy m (and_right s.args.rest (manager_ok m) (said (sound t.before) t.if-parts_sound.true))
+    (sized s.args.state s.well_formed.0)
 
-returns : tie.Need-returns
+returns : tie.Need-returns-then-parts_sound
 returns c =
     let e = c.before.before in let t = e.before.before.before.before in let s = start t.before in
-    rw (e.close_at.ensures.0, e.close_at.ensures.1)
-    (ended_is s.args.state (sized s.args.state s.good.0) s.args.rest
-    (said (sound t.before) t.if1.true) s.args.i false)
+    rw (e.close_at-e.ensures.0, e.close_at-e.ensures.1)
+    (ended_is s.args.state (sized s.args.state s.well_formed.0) s.args.rest
+    (said (sound t.before) t.if-parts_sound.true) s.args.i false)
 
 pub roll_back_spec : {M : Type 1} → statement M
 unfolding close_answer
@@ -44,4 +44,4 @@ roll_back_spec =
     (λ c κs. search rules)
     close-at_requires
     returns
-    (λ c. rw (said (sound c.before) c.if1.false)))
+    (λ c. rw (said (sound c.before) c.if-parts_sound.false)))

@@ -7,4 +7,6 @@ use Rattle.plan_save.proofs.runs.first_of.Tie as tie
 
 pub first_of_spec : {M : Type 1} → statement M
 unfolding first_of
-first_of_spec = tie.close (tie.spec (λ c. search rules) (λ c. search tests) (λ c. search tests))
+first_of_spec = tie.close (tie.spec (λ c. search rules)
+    (λ c. search tests)
+    (λ c. search tests))

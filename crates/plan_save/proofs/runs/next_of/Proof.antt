@@ -7,4 +7,7 @@ use Rattle.plan_save.proofs.runs.next_of.Tie as tie
 
 pub next_of_spec : {M : Type 1} → statement M
 unfolding next_of
-next_of_spec = tie.close (tie.spec (λ c. search tests) (λ c. search tests) (λ c. search rules) (λ c. search tests))
+next_of_spec = tie.close (tie.spec (λ c. search tests)
+    (λ c. search tests)
+    (λ c. search rules)
+    (λ c. search tests))

@@ -6,4 +6,5 @@ use Rattle.plan_save.proofs.runs.place_in.Tie as tie
 
 pub place_in_spec : {M : Type 1} → statement M
 unfolding place_in
-place_in_spec = tie.close (tie.spec (λ c. search tests) (λ c. search tests))
+place_in_spec = tie.close (tie.spec (λ c. search tests)
+    (λ c. search tests))

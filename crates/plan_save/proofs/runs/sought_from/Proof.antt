@@ -14,34 +14,34 @@ sought_from_spec =
     (tie.spec
     (λ c κs. search rules)
     (λ c κs. search rules)
-    (λ c. rw (lt-leb _ _ c.if1.true) c.before.before.from-of.ensures)
+    (λ c. rw (lt-leb _ _ c.if-e-found.true) c.before.before.from_of-from.ensures)
     (λ c. let u = c.before in
-    rw (le-leb _ _ u.if1.false, le-ltb _ _ c.if2.true) u.before.before.from-of.ensures)
+    rw (le-leb _ _ u.if-e-found.false, le-ltb _ _ c.if-p-ge-PARTITIONS_MAX.true) u.before.before.from_of-from.ensures)
     (λ c. search rules)
     (λ c. let v = c.before.before in let u = v.before in let s = u.before.before.before.args in
     rw (
-      le-leb _ _ u.if1.false,
-      lt-ltb _ _ v.if2.false,
-      not-true (get_or s.t2.whole s.p false) c.if3.true,
-    ) u.before.before.from-of.ensures)
+      le-leb _ _ u.if-e-found.false,
+      lt-ltb _ _ v.if-p-ge-PARTITIONS_MAX.false,
+      not-true (get_or s.found.whole s.p false) c.if-not-found-p.true-raw,
+    ) u.before.before.from_of-from.ensures)
     (λ c. let w = c.before in let v = w.before.before in let u = v.before in let t = u.before in
     let s = t.before.before.args in
     rw (
-      le-leb _ _ u.if1.false,
-      lt-ltb _ _ v.if2.false,
-      not-false (get_or s.t2.whole s.p false) w.if3.false,
-      ← t.to-of.ensures,
-      ← t.before.from-of.ensures,
-      le-ltb _ _ c.if4.true,
+      le-leb _ _ u.if-e-found.false,
+      lt-ltb _ _ v.if-p-ge-PARTITIONS_MAX.false,
+      not-false (get_or s.found.whole s.p false) w.if-not-found-p.false-raw,
+      ← t.to_of-to.ensures,
+      ← t.before.from_of-from.ensures,
+      le-ltb _ _ c.if-to-from.true,
     ))
     (λ c. search rules)
     (λ c. let w = c.before in let v = w.before.before in let u = v.before in let t = u.before in
     let s = t.before.before.args in
     rw (
-      le-leb _ _ u.if1.false,
-      lt-ltb _ _ v.if2.false,
-      not-false (get_or s.t2.whole s.p false) w.if3.false,
-      ← t.to-of.ensures,
-      ← t.before.from-of.ensures,
-      lt-ltb _ _ c.if4.false,
+      le-leb _ _ u.if-e-found.false,
+      lt-ltb _ _ v.if-p-ge-PARTITIONS_MAX.false,
+      not-false (get_or s.found.whole s.p false) w.if-not-found-p.false-raw,
+      ← t.to_of-to.ensures,
+      ← t.before.from_of-from.ensures,
+      lt-ltb _ _ c.if-to-from.false,
     )))

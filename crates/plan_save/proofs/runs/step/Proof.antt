@@ -11,6 +11,6 @@ step_spec =
     tie.close
     (tie.spec
     (λ c κs. search rules)
-    (λ c. rw (said c.before.is-shown.ensures c.if1.true))
+    (λ c. rw (said c.before.is_shown.ensures c.if-is_shown.true))
     (λ c κs. search rules)
-    (λ c. rw (said c.before.before.is-shown.ensures c.before.if1.false, ← c.next_of.ensures)))
+    (λ c. rw (said c.before.before.is_shown.ensures c.before.if-is_shown.false, ← c.next_of-n.ensures)))

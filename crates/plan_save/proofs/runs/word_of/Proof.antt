@@ -6,4 +6,7 @@ use Rattle.plan_save.proofs.runs.word_of.Tie as tie
 
 pub word_of_spec : {M : Type 1} → statement M
 unfolding word_of
-word_of_spec = tie.close (tie.spec (λ c. search rules) (λ c. search rules) (λ c. search rules) (λ c. search rules))
+word_of_spec = tie.close (tie.spec (λ c. search rules)
+    (λ c. search rules)
+    (λ c. search rules)
+    (λ c. search rules))

@@ -12,23 +12,23 @@ use Rattle.txn.proofs.Laws.Cut.{Cutting, cutting-start, cutting_move, cutting-cl
 use Rattle.txn_close.proofs.close.cut_writers.Statement.{statement}
 use Rattle.txn_close.proofs.close.cut_writers.Tie as tie
 
-abbrev invariant_loop : tie.invariant_loop
+abbrev invariant_loop : tie.invariant-loop-j
 invariant_loop a b n gap z at₀ j₀ at j = Cutting no_rw at₀ writers_max n a b j at
 
-abbrev decreases_loop : tie.decreases_loop
+abbrev decreases_loop : tie.decreases-loop-j
 decreases_loop a b n gap z at₀ j₀ at j = n - j
 
-loop-holds : tie.Need-loop-init invariant_loop decreases_loop
+loop-holds : tie.Need-loop-j-init invariant_loop decreases_loop
 loop-holds c = let s = c.before.before in let p = s.requires.0 in
-    cutting-start no_rw (writers_32 s.args.ts _ s.well-formed.0) p.2 p.0 p.1 s.requires.1
+    cutting-start no_rw (writers_32 s.args.ts _ s.well_formed.0) p.2 p.0 p.1 s.requires.1
 
-loop-again : tie.Need-loop-preserved invariant_loop decreases_loop
+loop-again : tie.Need-loop-j-preserved invariant_loop decreases_loop
 loop-again c = let l = c.before.before in
     ⊎_elim
-    (λ w. rw w.2 (cutting_move no_rw l.loop.invariant w.0.taken))
-    (λ w. rw (w.1, l.before.before.no-rw.ensures)
-    (cutting-clear no_rw l.loop.invariant w.0.left (omega arith)))
-    c.if1.branch
+    (λ w. rw w.at-is (cutting_move no_rw l.loop-j.invariant w.if-s-n.true))
+    (λ w. rw (w.at-is, l.before.before.no_rw-z.ensures)
+    (cutting-clear no_rw l.loop-j.invariant w.if-s-n.false (omega arith)))
+    c.if-s-n.branch-raw
 
 pub cut_writers_spec : {M : Type 1} → statement M
 cut_writers_spec =
@@ -50,4 +50,4 @@ cut_writers_spec =
     (λ c. omega arith)
     loop-again
     (λ c. omega arith)
-    (λ c. cutting-end no_rw c.before.loop.invariant (omega arith)))
+    (λ c. cutting-end no_rw c.before.loop-j.invariant (omega arith)))

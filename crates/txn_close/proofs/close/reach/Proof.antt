@@ -18,7 +18,7 @@ use Rattle.txn_close.specs.Close.{lead, run_lce, first_open}
 use Rattle.txn_close.proofs.close.reach.Statement.{statement}
 use Rattle.txn_close.proofs.close.reach.Tie as tie
 
-abbrev invariant_loop : tie.invariant_loop
+abbrev invariant_loop : tie.invariant-loop-k
 invariant_loop lce ts n last₀ k₀ last k = Scan ts.at ts.count writers_max n k
     × (run_lce lce (map (view []) (take ts.count ts.at))
     ≡ run_lce last (map (view []) (drop k (take ts.count ts.at))))
@@ -27,19 +27,19 @@ invariant_loop lce ts n last₀ k₀ last k = Scan ts.at ts.count writers_max n 
     × (first_open (map (view []) (take ts.count ts.at))
     ≡ first_open (map (view []) (drop k (take ts.count ts.at))))
 
-abbrev decreases_loop : tie.decreases_loop
+abbrev decreases_loop : tie.decreases-loop-k
 decreases_loop lce ts n last₀ k₀ last k = n - k
 
-returns : tie.Need-returns invariant_loop decreases_loop
-returns c = let l = c.before.before.loop.invariant in
-    rw (l.1, l.2, l.3, scan-next l.0 no_rw (omega arith), eq-eqb _ _ c.if1.true, add-zero)
+returns : tie.Need-returns-then-ts-k-eq0 invariant_loop decreases_loop
+returns c = let l = c.before.before.loop-k.invariant in
+    rw (l.1, l.2, l.3, scan-next l.0 no_rw (omega arith), eq-eqb _ _ c.if-ts-k-eq0.true, add-zero)
 
-loop-again : tie.Need-loop-preserved invariant_loop decreases_loop
-loop-again c = let l = c.before.before.loop.invariant in let next = scan-next l.0 no_rw (omega arith) in (
+loop-again : tie.Need-loop-k-preserved invariant_loop decreases_loop
+loop-again c = let l = c.before.before.loop-k.invariant in let next = scan-next l.0 no_rw (omega arith) in (
   scan-on l.0 (omega arith),
-  l.1 ∙ rw (next, ne_eqb _ _ c.if1.false),
-  l.2 ∙ rw (next, ne_eqb _ _ c.if1.false) (omega arith),
-  l.3 ∙ rw (next, ne_eqb _ _ c.if1.false),
+  l.1 ∙ rw (next, ne_eqb _ _ c.if-ts-k-eq0.false),
+  l.2 ∙ rw (next, ne_eqb _ _ c.if-ts-k-eq0.false) (omega arith),
+  l.3 ∙ rw (next, ne_eqb _ _ c.if-ts-k-eq0.false),
 )
 
 pub reach_spec : {M : Type 1} → statement M
@@ -50,7 +50,7 @@ reach_spec =
     decreases_loop
     (λ c κs. omega arith)
     (λ c. (
-      scan-start (writers_32 c.before.args.t1 _ c.before.well-formed.0) c.in_use.ensures,
+      scan-start (writers_32 c.before.args.ts _ c.before.well_formed.0) c.in_use-n.ensures,
       refl,
       omega arith,
       refl,
@@ -65,4 +65,4 @@ reach_spec =
     (λ c. omega arith)
     (λ c. omega arith)
     loop-again
-    (λ c. let l = c.before.loop.invariant in rw (l.1, l.2, l.3, scan-end l.0 (omega arith), add-zero)))
+    (λ c. let l = c.before.loop-k.invariant in rw (l.1, l.2, l.3, scan-end l.0 (omega arith), add-zero)))

@@ -12,18 +12,18 @@ use Rattle.txn_close.proofs.Laws.Rows.{zeros-next}
 use Rattle.txn_close.proofs.close.zero_row.Statement.{statement}
 use Rattle.txn_close.proofs.close.zero_row.Tie as tie
 
-abbrev invariant_loop : tie.invariant_loop
+abbrev invariant_loop : tie.invariant-loop-k
 invariant_loop deps₀ from k₀ deps k = (k ≤ deps_max) × (deps ≡ over from (replicate k 0) deps₀)
 
-abbrev decreases_loop : tie.decreases_loop
+abbrev decreases_loop : tie.decreases-loop-k
 decreases_loop deps₀ from k₀ deps k = deps_max - k
 
-loop-again : tie.Need-loop-preserved invariant_loop decreases_loop
-loop-again c = let l = c.before.loop in let s = c.before.before in
+loop-again : tie.Need-loop-k-preserved invariant_loop decreases_loop
+loop-again c = let l = c.before.before.loop-k in let s = c.before.before in
     (omega arith, rw l.invariant.1 (zeros-next s.args.from l.k s.args.deps.now (omega (arith, s.requires.1))))
 
 returns : tie.Need-returns invariant_loop decreases_loop
-returns c = let l = c.before.loop in let e : l.k ≡ deps_max = omega arith in l.invariant.1 ∙ rw e
+returns c = let l = c.before.loop-k in let e : l.k ≡ deps_max = omega arith in l.invariant.1 ∙ rw e
 
 pub zero_row_spec : {M : Type 1} → statement M
 zero_row_spec =

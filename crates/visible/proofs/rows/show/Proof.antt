@@ -61,11 +61,12 @@ fill_requires : tie.Need-fill-count-requires invariant_loop decreases_loop
 fill_requires c κs = let t = turn c.before.before.before in (t.low, t.high)
 
 -- and with it the entries up to i are laid
-abbrev this : tie.After-slice_known-in-loop-i-1 invariant_loop decreases_loop → tie.In-loop-i invariant_loop decreases_loop
+abbrev this : tie.After-slice_known-in-loop-i-1 invariant_loop decreases_loop
+    → tie.In-loop-i invariant_loop decreases_loop
 this c = c.before.before.before.before.before.before
 
-next : (c : tie.After-slice_known-in-loop-i-1 invariant_loop decreases_loop) → let k = this c in let a = (S k).args in let l = k.before.loop-i in
-    let r = c.before.before.fill-count in
+next : (c : tie.After-slice_known-in-loop-i-1 invariant_loop decreases_loop) →
+    let k = this c in let a = (S k).args in let l = k.before.loop-i in let r = c.before.before.fill-count in
     Laid (sees_view a.v a.deps.now) (as_top a.top) (Es k) (l.i + 1) (E k).end (l.count + r.result)
     r.new.shown
 next c = let r = c.before.before.fill-count in let b = c.before.before.before.before.shows-b in

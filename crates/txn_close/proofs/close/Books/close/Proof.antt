@@ -9,6 +9,6 @@ close_spec =
     tie.close
     (tie.spec
     (λ c κs. search rules)
-    (λ c. rw c.before.before.if1.true (search rules))
+    (λ c. rw c.before.before.if-waits.true (search rules))
     (λ c κs. search rules)
-    (λ c. rw c.before.before.if1.false (search rules)))
+    (λ c. rw c.before.before.if-waits.false (search rules)))

@@ -1,0 +1,70 @@
+-- `plan_save::runs::runs_of` meets its contract. A turn of the outer loop finds where partition p lies, from where on it
+-- is gone over, and its greatest clearing; one of the inner takes the entry at i to the pending run, and stores the word
+-- of that at its place.
+-- Assumes nothing.
+use Rattle.std.proofs.Common.{◌≡◌, ◌+◌, ◌-◌, ◌<◌, refl, ap, suc, add-one, arith, ltb-true, List}
+use Rattle.std.specs.Prelude.{ltb, ℕ}
+use Rattle.lists.proofs.Laws.Bools.{split}
+use Rattle.lent.specs.Shapes.{turned}
+use Rattle.plan_save.specs.declared.runs.Pending.{Pending}
+use Rattle.plan_save.specs.Runs.{Laid, words_max, place_in, laid_below}
+use Rattle.plan_save.proofs.runs.runs_of.Goals as goal
+
+-- a pending run goes to one of the places
+place-below : (s : Pending) → place_in s < words_max
+unfolding place_in
+place-below s = split (ltb s.at words_max) (λ y. rw y (ltb-true s.at words_max y)) (λ f. rw f (omega arith))
+
+pub loop-p-init : goal.loop-p-init
+unfolding laid_below
+loop-p-init c = (omega arith, c.no_words-a.ensures)
+
+pub loop-i-init : goal.loop-i-init
+unfolding turned
+loop-i-init c = let f = c.sought_from-from.result in let z : f - f ≡ 0 = omega arith in
+    (omega arith, omega arith, rw (z, c.first_of-s.ensures) refl)
+
+pub offset_bounds-a-k : goal.offset_bounds-a-k
+offset_bounds-a-k c = let b = place-below c.step-s.result in let e = c.place_in-k.ensures in
+    record { fits = omega (arith, b, e) }
+
+pub bounds-a-k : goal.bounds-a-k
+bounds-a-k c = let b = place-below c.step-s.result in let e = c.place_in-k.ensures in omega (arith, b, e)
+
+pub loop-i-preserved : goal.loop-i-preserved
+unfolding turned
+loop-i-preserved c = let l = c.loop-i in let f = c.sought_from-from.result in
+    let next : l.i + 1 - f ≡ suc (l.i - f) = omega arith in
+    let here : f + (l.i - f) ≡ l.i = omega arith in (
+      omega arith,
+      omega arith,
+      rw (
+        next,
+        here,
+        ← l.invariant.2,
+        c.place_in-k.ensures,
+        c.word_of-w.ensures,
+        c.step-s.ensures,
+        c.read_entry-x.ensures,
+      ) refl,
+    )
+
+pub loop-p-preserved : goal.loop-p-preserved
+unfolding laid_below
+loop-p-preserved c = let l = c.loop-i in let f = c.sought_from-from.result in
+    let all : l.i - f ≡ c.to_of-to.result - f = omega arith in (
+      omega arith,
+      rw (
+        ap (λ (x : Laid). x.words) l.invariant.2,
+        all,
+        add-one c.loop-p.p,
+        c.loop-p.invariant.1,
+        c.cut_of-cut.ensures,
+        c.find-top.ensures,
+        c.sought_from-from.ensures,
+        c.to_of-to.ensures,
+        c.place_of-q.ensures,
+        c.no_top-none.ensures,
+        c.page_at-reach.ensures,
+      ) refl,
+    )
