@@ -59,7 +59,7 @@ pub fn dispatch(
     }
 }
 
-// turn is proved by hand, since it lends the entries. What it does beside that call stands in these two, which are not.
+// What `turn` does beside the call that it lends the entries to stands in these two.
 pub fn entries_in(table: Table) -> [Entry; ENTRIES_LENT]
     ensures { result ≡ table.at }
 {

@@ -15,8 +15,8 @@ new_books_spec =
     (λ c κs. search rules)
     (λ c κs. search rules)
     (λ c. rw (
-      c.before.before.before.predecessor.ensures,
-      c.before.before.no-rw.ensures,
-      c.before.no-ro.ensures,
-      c.fresh.ensures,
+      c.before.before.before.predecessor-base.ensures,
+      c.before.before.no_rw-t.ensures,
+      c.before.no_ro-p.ensures,
+      c.fresh-partitions.ensures,
     )))

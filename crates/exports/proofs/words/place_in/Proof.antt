@@ -10,17 +10,17 @@ use Rattle.partition.proofs.Laws.Places.{partitions_8}
 use Rattle.exports.proofs.words.place_in.Statement.{statement}
 use Rattle.exports.proofs.words.place_in.Tie as tie
 
-returns : tie.Need-returns
-returns c = rw (ne_eqb c.before.args.number 0 c.if1.true)
+returns : tie.Need-returns-then-number-ne0
+returns c = rw (ne_eqb c.before.args.number 0 c.if-number-ne0.true)
 
-returns_2 : tie.Need-returns-2
-returns_2 c = let s = c.before.before in let n = partitions_8 s.args.t2 _ s.well-formed.1.0 in
-    let e : get_or s.args.t2.at s.args.p no_partition ≡ no_partition =
-    get_or-eq_default s.args.t2.at no_partition (omega (arith, c.if2.true)) in
-    rw (c.before.if1.false, e)
+returns_2 : tie.Need-returns-then-p
+returns_2 c = let s = c.before.before in let n = partitions_8 s.args.partitions _ s.well_formed.1.0 in
+    let e : get_or s.args.partitions.at s.args.p no_partition ≡ no_partition =
+    get_or-eq_default s.args.partitions.at no_partition (omega (arith, c.if-p.true)) in
+    rw (c.before.if-number-ne0.false, e)
 
-returns_3 : tie.Need-returns-3
-returns_3 c = rw (c.row-base.ensures, c.before.before.before.if1.false)
+returns_3 : tie.Need-returns
+returns_3 c = rw (c.row_base.ensures, c.before.before.before.if-number-ne0.false)
 
 pub place_in_spec : {M : Type 1} → statement M
 place_in_spec =

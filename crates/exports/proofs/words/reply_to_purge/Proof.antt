@@ -15,8 +15,8 @@ reply_to_purge_spec =
     (λ c. search rules)
     (λ c. search rules)
     (λ c. rw (
-      c.place-in.ensures,
-      c.before.before.reply-of.ensures,
+      c.place_in-place.ensures,
+      c.before.before.before.reply_of-reply.ensures,
       get_d-pad {A = ℕ} 2 0,
       get_d-pad {A = ℕ} 2 0,
     )))

@@ -13,4 +13,4 @@ reply_to_read_spec =
     (λ c κs. search rules)
     (λ c. search rules)
     (λ c. search rules)
-    (λ c. rw (c.before.reply-of.ensures, get_d-pad {A = ℕ} 2 0, get_d-pad {A = ℕ} 2 0)))
+    (λ c. rw (c.before.reply_of-reply.ensures, get_d-pad {A = ℕ} 2 0, get_d-pad {A = ℕ} 2 0)))

@@ -13,18 +13,18 @@ use Rattle.laws.proofs.Laws.Each.{Filled, filled_none, filled_next, filled-all}
 use Rattle.recovery.proofs.restore.bodies_of.Statement.{statement}
 use Rattle.recovery.proofs.restore.bodies_of.Tie as tie
 
-abbrev invariant_loop : tie.invariant_loop
+abbrev invariant_loop : tie.invariant-loop-p
 invariant_loop h bodies₀ at₀ p₀ bodies at p =
     (p ≤ partitions_max) × Fits h × (at ≡ body_of h p) × Filled 0 (body_of h) bodies p
 
-abbrev decreases_loop : tie.decreases_loop
+abbrev decreases_loop : tie.decreases-loop-p
 decreases_loop h bodies₀ at₀ p₀ bodies at p = partitions_max - p
 
-loop-holds : tie.Need-loop-init invariant_loop decreases_loop
+loop-holds : tie.Need-loop-p-init invariant_loop decreases_loop
 loop-holds c = (omega arith, c.requires, omega arith, filled_none _ _ _ refl)
 
-loop-again : tie.Need-loop-preserved invariant_loop decreases_loop
-loop-again c = let l = c.before.before.loop in let h = c.before.before.before.args.t1 in (
+loop-again : tie.Need-loop-p-preserved invariant_loop decreases_loop
+loop-again c = let l = c.before.before.loop-p in let h = c.before.before.before.args.h in (
   omega arith,
   l.invariant.1,
   rw (l.invariant.2, add-one l.p) (sym (body-next h l.p)),
@@ -32,16 +32,16 @@ loop-again c = let l = c.before.before.loop in let h = c.before.before.before.ar
 )
 
 -- the next one begins before the end
-mul-at_2 : tie.Need-overflow-mul-at-2 invariant_loop decreases_loop
-mul-at_2 c = let l = c.before.before.loop in let h = c.before.before.before.args.t1 in
+mul-at_2 : tie.Need-overflow_mul-at invariant_loop decreases_loop
+mul-at_2 c = let l = c.before.before.loop-p in let h = c.before.before.before.args.h in
     omega (arith, body-next h l.p, body_end h (suc l.p), l.invariant.1.end_fits)
 
-add_at : tie.Need-overflow-add-at invariant_loop decreases_loop
-add_at c = let l = c.before.before.loop in let h = c.before.before.before.args.t1 in
+add_at : tie.Need-overflow_add-at invariant_loop decreases_loop
+add_at c = let l = c.before.before.loop-p in let h = c.before.before.before.args.h in
     omega (arith, body-next h l.p, body_end h (suc l.p), l.invariant.1.end_fits, l.invariant.2)
 
 returns : tie.Need-returns invariant_loop decreases_loop
-returns c = let l = c.before.loop in let all : l.p ≡ partitions_max = omega arith in
+returns c = let l = c.before.loop-p in let all : l.p ≡ partitions_max = omega arith in
     filled-all _ _ l.bodies (rw all at l.invariant.3)
 
 pub bodies_of_spec : {M : Type 1} → statement M

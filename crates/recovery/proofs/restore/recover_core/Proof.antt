@@ -17,38 +17,38 @@ use Rattle.recovery.proofs.restore.recover_core.Statement.{statement}
 use Rattle.recovery.proofs.restore.recover_core.Tie as tie
 
 -- what is found, where the lengths are well
-module _ (f : tie.After-find) where
+module _ (f : tie.After-find-f) where
   abbrev bytes : List ℕ
   bytes = f.before.before.before.before.args.file.now
 
-  found : f.find.result ≡ header_in last_epoch bytes
+  found : f.find-f.result ≡ header_in last_epoch bytes
   unfolding last_epoch
-  found = f.find.ensures
+  found = f.find-f.ensures
 
   well : lengths_are f.before.before.before.before.args.n f.before.before.before.before.args.m ≡ true
-  well = said-yes f.before.before.lengths-ok.ensures f.before.if1.left
+  well = said-yes f.before.before.lengths_ok.ensures f.before.if-not-lengths_ok.false-raw
 
-returns : tie.Need-returns
+returns : tie.Need-returns-then-not-lengths_ok
 unfolding restored_by
-returns c = c.refused.ensures ∙ rw (said-no c.before.before.lengths-ok.ensures c.before.if1.true)
+returns c = c.refused.ensures ∙ rw (said-no c.before.before.lengths_ok.ensures c.before.if-not-lengths_ok.true-raw)
 
-returns_2 : tie.Need-returns-2
+returns_2 : tie.Need-returns-then-f
 unfolding restored_by
 returns_2 c = let f = c.before.before in
-    c.refused2.ensures ∙ rw (well f, sym (ap (λ (x : Found). x.corrupt) (found f)) ∙ c.before.if2.true)
+    c.refused-then-f.ensures ∙ rw (well f, sym (ap (λ (x : Found). x.corrupt) (found f)) ∙ c.before.if-f.true)
 
-restore-from_requires : tie.Need-restore-from-requires
+restore-from_requires : tie.Need-restore_from-requires
 restore-from_requires c κs = let f = c.before.before in let w = header-whole last_epoch (bytes f) in
     rw (found f) (record {
       epoch-fits = w.epoch;
-      end_fits = omega (arith, w.body, f.before.before.before.before.well-formed);
+      end_fits = omega (arith, w.body, f.before.before.before.before.well_formed);
     })
 
-returns_3 : tie.Need-returns-3
+returns_3 : tie.Need-returns
 unfolding restored_by
 returns_3 c = let f = c.before.before.before in
-    c.restore-from.ensures
-    ∙ rw (found f, well f, sym (ap (λ (x : Found). x.corrupt) (found f)) ∙ c.before.before.if2.false)
+    c.restore_from.ensures
+    ∙ rw (found f, well f, sym (ap (λ (x : Found). x.corrupt) (found f)) ∙ c.before.before.if-f.false)
 
 pub recover_core_spec : {M : Type 1} → statement M
 recover_core_spec =

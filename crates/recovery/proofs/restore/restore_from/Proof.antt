@@ -5,7 +5,7 @@ use Rattle.laws.proofs.Laws.Limits.{last_epoch-fits}
 use Rattle.recovery.proofs.restore.restore_from.Statement.{statement}
 use Rattle.recovery.proofs.restore.restore_from.Tie as tie
 
-add_t8 : tie.Need-overflow-add-t8
+add_t8 : tie.Need-overflow_add-result
 add_t8 c = omega (arith, last_epoch-fits, c.before.before.before.before.before.requires.epoch-fits)
 
 pub restore_from_spec : {M : Type 1} → statement M
@@ -15,4 +15,4 @@ restore_from_spec =
     (λ c κs. search rules)
     (λ c κs. search rules)
     add_t8
-    (λ c. rw (c.before.weights-of.ensures, c.before.before.bodies_of.ensures)))
+    (λ c. rw (c.before.weights_of-totals.ensures, c.before.before.bodies_of-bodies.ensures)))

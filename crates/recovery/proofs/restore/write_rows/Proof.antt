@@ -12,30 +12,30 @@ use Rattle.recovery.specs.Restore.{rows_restored}
 use Rattle.recovery.proofs.restore.write_rows.Statement.{statement}
 use Rattle.recovery.proofs.restore.write_rows.Tie as tie
 
-abbrev invariant_loop : tie.invariant_loop
+abbrev invariant_loop : tie.invariant-loop-p
 invariant_loop rows₀ file w p₀ rows p =
     (p ≤ partitions_max) × (length w.counts ≡ partitions_max) × (length w.bodies ≡ partitions_max)
     × (length rows ≡ length rows₀) × (rows ≡ rows_restored file w p rows₀)
 
-abbrev decreases_loop : tie.decreases_loop
+abbrev decreases_loop : tie.decreases-loop-p
 decreases_loop rows₀ file w p₀ rows p = partitions_max - p
 
-loop-holds : tie.Need-loop-init invariant_loop decreases_loop
+loop-holds : tie.Need-loop-p-init invariant_loop decreases_loop
 unfolding rows_restored
 loop-holds c = (omega arith, search rules, search rules, refl, refl)
 
-loop-again : tie.Need-loop-preserved invariant_loop decreases_loop
+loop-again : tie.Need-loop-p-preserved invariant_loop decreases_loop
 unfolding rows_restored
-loop-again c = let l = c.before.before.before.before.before.before.before.loop in (
+loop-again c = let l = c.before.before.before.before.before.before.before.loop-p in (
   omega arith,
   l.invariant.1,
   l.invariant.2,
   search rules,
-  rw (add-one l.p) (c.before.before.copy-rows.ensures ∙ rw l.invariant.4),
+  rw (add-one l.p) (c.before.before.copy_rows.ensures ∙ rw l.invariant.4),
 )
 
 returns : tie.Need-returns invariant_loop decreases_loop
-returns c = let l = c.before.loop in let all : l.p ≡ partitions_max = omega arith in
+returns c = let l = c.before.loop-p in let all : l.p ≡ partitions_max = omega arith in
     rw all at l.invariant.4
 
 pub write_rows_spec : {M : Type 1} → statement M

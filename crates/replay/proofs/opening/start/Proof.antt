@@ -10,10 +10,10 @@ use Rattle.replay.proofs.opening.start.Tie as tie
 
 returns : tie.Need-returns
 returns c = let t = c.before.before.before in let b = t.before.before.before.before in
-    started-by b.before.before.new-books.result b.to-table.result
+    started-by b.before.before.new_books-state.result b.to_table-table.result
     b.before.before.before.before.args.rows.now
-    t.turn.new.1.1.0 t.turn.new.1.1.1.1.0 t.turn.result b.before.before.new-books.ensures
-    (b.to-table.ensures ∙ ap (λ (a : List Entry). record { at = a }) b.before.blank.ensures) t.turn.ensures
+    t.turn.new.rows t.turn.new.bytes t.turn.result b.before.before.new_books-state.ensures
+    (b.to_table-table.ensures ∙ ap (λ (a : List Entry). record { at = a }) b.before.blank.ensures) t.turn.ensures
 
 pub start_spec : {M : Type 1} → statement M
 start_spec =

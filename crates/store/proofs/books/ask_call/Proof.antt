@@ -10,4 +10,4 @@ ask_call_spec =
     (tie.spec
     (λ c κs. search rules)
     (λ c κs. search rules)
-    (λ c. c.ask-landing.ensures ∙ rw c.before.reached.ensures))
+    (λ c. c.ask_landing.ensures ∙ rw c.before.reached-high.ensures))

@@ -10,4 +10,4 @@ ask_commit_spec =
     (tie.spec
     (λ c κs. search rules)
     (λ c κs. search rules)
-    (λ c. c.ask-landing.ensures ∙ rw c.before.lce-after.ensures))
+    (λ c. c.ask_landing.ensures ∙ rw c.before.lce_after-high.ensures))

@@ -10,4 +10,4 @@ call_core_spec =
     (tie.spec
     (λ c κs. search rules)
     (λ c κs. search rules)
-    (λ c. c.landed.ensures ∙ rw c.before.before.manage-core.ensures))
+    (λ c. c.landed.ensures ∙ rw c.before.before.manage_core-done.ensures))

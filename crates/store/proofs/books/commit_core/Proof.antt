@@ -10,4 +10,4 @@ commit_core_spec =
     (tie.spec
     (λ c κs. search rules)
     (λ c κs. search rules)
-    (λ c. c.landed.ensures ∙ rw c.before.before.commit.ensures))
+    (λ c. c.landed.ensures ∙ rw c.before.before.commit-done.ensures))

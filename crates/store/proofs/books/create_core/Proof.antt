@@ -8,27 +8,27 @@ use Rattle.epoch.proofs.Laws.Epochs.{start-at, start-out}
 use Rattle.store.proofs.books.create_core.Statement.{statement}
 use Rattle.store.proofs.books.create_core.Tie as tie
 
-returns : tie.Need-returns
+returns : tie.Need-returns-then-not-lengths_ok
 unfolding create_answer
-returns c = rw (sym c.before.lengths-ok.ensures ∙ not-true _ c.if1.true)
+returns c = rw (sym c.before.lengths_ok.ensures ∙ not-true _ c.if-not-lengths_ok.true-raw)
 
-returns_2 : tie.Need-returns-2
+returns_2 : tie.Need-returns-in_default
 unfolding create_answer
 returns_2 c =
-    let s = c.before.before.before.before in
+    let s = c.before.before.before in
     rw (
-      sym s.lengths-ok.ensures ∙ not-false _ c.before.before.before.if1.false,
-      start-out s.before.args.a (sym c.before.before.new.ensures ∙ c.enum_told.given.1),
+      sym s.lengths_ok.ensures ∙ not-false _ c.before.before.if-not-lengths_ok.false-raw,
+      start-out s.before.args.a (sym c.before.new.ensures ∙ c.in_default.is),
     )
 
-returns_3 : tie.Need-returns-3
+returns_3 : tie.Need-returns
 unfolding create_answer
 returns_3 c =
-    let f = c.before.before in
-    let n = f.before.before in
+    let f = c.before in
+    let n = f.before in
     let s = n.before.before in
-    let w = start-at s.before.args.a _ (sym n.new.ensures ∙ f.first.given.1) in
-    rw (sym s.lengths-ok.ensures ∙ not-false _ n.before.if1.false, w.0, c.new-books.ensures, w.1)
+    let w = start-at s.before.args.a _ (sym n.new.ensures ∙ f.in-At.is) in
+    rw (sym s.lengths_ok.ensures ∙ not-false _ n.before.if-not-lengths_ok.false-raw, w.0, c.new_books-after.ensures, w.1)
 
 pub create_core_spec : {M : Type 1} → statement M
 create_core_spec =

@@ -22,11 +22,11 @@ others-accepted : (a : Answer) → OneOf others (tag_of the_type a) → accepted
 others-accepted = refused-or (λ a. OneOf others (tag_of the_type a) → accepted a ≡ true)
     (λ r h. absurd (miss others 13 tt h)) (λ a t h. t)
 
-returns : tie.Need-returns
-returns c = rw (c.enum_told.given.1, refused c.enum_told.given.0.0)
+returns : tie.Need-returns-in-Refused
+returns c = rw (c.in-Refused.is, refused c.in-Refused.field-0)
 
-returns_2 : tie.Need-returns-2
-returns_2 c = rw (others-accepted _ c.match.keys2)
+returns_2 : tie.Need-returns
+returns_2 c = rw (others-accepted _ c.in_default.in_default-own.keys2)
 
 pub goes_on_spec : {M : Type 1} → statement M
 goes_on_spec =

@@ -27,11 +27,14 @@ others-stay c ts (BeginRo e) h = refl
 others-stay c ts (EndRo t) h = refl
 others-stay c ts (AdvanceLse t) h = refl
 
-returns : tie.Need-returns
-returns c = let a = c.before.args in others-stay a.clock a.ts a.call c.match.keys2
+returns : tie.Need-returns-in_default
+returns c = let a = c.before.args in others-stay a.clock a.ts a.call c.in_default.in_default-own.keys2
 
-returns_2 : tie.Need-returns-2
-returns_2 c = c.lce-after.ensures ∙ rw c.before.before.call.given.1
+returns_2 : tie.Need-returns
+returns_2 c = c.lce_after.ensures ∙ rw c.before.in-Commit.is
 
 pub reached_spec : {M : Type 1} → statement M
-reached_spec = tie.close (tie.spec (λ c. search rules) returns (λ c κs. search rules) returns_2)
+reached_spec = tie.close (tie.spec (λ c. search rules)
+    returns
+    (λ c κs. search rules)
+    returns_2)

@@ -10,4 +10,4 @@ roll_back_core_spec =
     (tie.spec
     (λ c κs. search rules)
     (λ c κs. search rules)
-    (λ c. c.landed.ensures ∙ rw c.before.before.roll-back.ensures))
+    (λ c. c.landed.ensures ∙ rw c.before.before.roll_back-done.ensures))

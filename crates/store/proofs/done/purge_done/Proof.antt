@@ -4,7 +4,8 @@ use Rattle.store.proofs.done.purge_done.Statement.{statement}
 use Rattle.store.proofs.done.purge_done.Tie as tie
 
 returns : tie.Need-returns
-returns c = rw c.moved.ensures
+returns c = rw c.moved-next.ensures
 
 pub purge_done_spec : {M : Type 1} → statement M
-purge_done_spec = tie.close (tie.spec (λ c κs. search rules) returns)
+purge_done_spec = tie.close (tie.spec (λ c κs. search rules)
+    returns)

@@ -10,10 +10,10 @@ use Rattle.partition.proofs.Laws.Places.{partitions_8}
 use Rattle.store.proofs.part.area_of.Statement.{statement}
 use Rattle.store.proofs.part.area_of.Tie as tie
 
-returns : tie.Need-returns
-returns c = let s = c.before in let n = partitions_8 s.args.t1 _ s.well-formed.0 in
-    sym (ap (λ (q : Partition). q.area) (get_or-eq_default s.args.t1.at no_partition
-    (omega (arith, c.if1.true))))
+returns : tie.Need-returns-then-p
+returns c = let s = c.before in let n = partitions_8 s.args.partitions _ s.well_formed.0 in
+    sym (ap (λ (q : Partition). q.area) (get_or-eq_default s.args.partitions.at no_partition
+    (omega (arith, c.if-p.true))))
 
 pub area_of_spec : {M : Type 1} → statement M
 area_of_spec =

@@ -6,10 +6,10 @@ use Rattle.store.proofs.part.live_rows.Tie as tie
 
 returns : tie.Need-returns
 returns c = rw (
-  c.in-force.ensures,
-  c.before.before.area-rows.ensures,
-  c.before.area-rows2.ensures,
-  c.before.before.before.area_of.ensures,
+  c.in_force.ensures,
+  c.before.before.area_rows.ensures,
+  c.before.area_rows-2.ensures,
+  c.before.before.before.area_of-old.ensures,
 )
 
 pub live_rows_spec : {M : Type 1} → statement M
