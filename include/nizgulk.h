@@ -1,5 +1,5 @@
 /* Nizgulk: an append-only snapshot-isolation store, for callers in C (C99 on) and C++ on x86-64. This header is the one
- * authority on the interface of the static library that `rt staticlib exports` leaves (target/staticlib/libexports.a).
+ * authority on the interface of the static library that `rt lib` leaves in crates/exports (out/libexports.a there).
  * "01" is the scope paper, "02" the paper of changes to it; their words stand in brackets beside the identifiers.
  *
  * The store is the caller's: the books (struct nizgulk_state), handed over by value, and two areas that are lent,

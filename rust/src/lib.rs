@@ -4,7 +4,7 @@
 //! differ.
 //!
 //! The calls are those of a static library that is written and proved in Rattle. This crate adds types and nothing
-//! else: it has no dependencies, no heap and no `std`. Before it is built, `rt staticlib exports` proves and makes
+//! else: it has no dependencies, no heap and no `std`. Before it is built, `rt lib` in crates/exports proves and makes
 //! the library.
 //!
 //! [`Store`] is what most callers want. [`calls`] has the same calls over books and areas of any words and lengths.

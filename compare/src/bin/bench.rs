@@ -181,7 +181,7 @@ fn main() -> std::io::Result<()> {
     head(name, "model");
     let (mut proved, mut model) = (f64::MAX, f64::MAX);
     for _ in 0..SESSIONS {
-        proved = proved.min(session("target/bin/session", &input)?);
+        proved = proved.min(session("crates/session/out/session", &input)?);
         model = model.min(session("target/bench/release/session", &input)?);
     }
     worst.line(name, &format!("{LINES} lines"), "ms", proved, model);

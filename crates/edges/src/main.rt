@@ -3,14 +3,19 @@
 // lines.
 #![tactic(auto)]
 
+<<<<<<< HEAD
+=======
+ghost use Rattle.std.specs.Prelude.{◌≤◌, length};
+
+>>>>>>> bdd563da0dbf7b3048ec7f6a9fe7f3e5add19a8f
 use lent::Table;
-use libc::{STDIN_FILENO, STDOUT_FILENO};
 use places::in_use;
 use reply::{ReplyWords, VALUES_MAX, reply_of};
 use rules::limits::ROWS_LENT;
 use rules::{Command, Kept, ManagerCall, Reader, State};
 use session_line::limits::{ANSWER_MAX, BITMAP_MAX, NUMBERS_MAX};
 use session_text::{Parsed, print_line};
+use std::io::{Read, Stdin, Stdout, Write};
 
 mod poke;
 
@@ -29,12 +34,32 @@ const STALE: u8 = 165;
 
 const ROW: u64 = 7;
 
-// The first n bytes, to standard output.
-fn send(bytes: &[u8], n: usize) {
+// Bytes of input that are read.
+const INPUT_MAX: usize = 65536;
+
+// The first n bytes, to standard output. What cannot be written is missing there.
+fn send(to: Stdout, bytes: &[u8], n: usize) {
     if bytes.len() < n {
         return;
     }
-    io::write_all(STDOUT_FILENO, &bytes[0..n]);
+    let mut stdout = to;
+    let _ = stdout.write_all(&bytes[0..n]);
+}
+
+// Standard input, until the buffer is full or the input ends; where a read fails it has ended.
+fn read_full(from: Stdin, input: &mut [u8]) -> usize
+    ensures { result ≤ length input.new }
+{
+    let mut stdin = from;
+    let mut done = 0;
+    while done < input.len() {
+        let count = stdin.read(&mut input[done..]).unwrap_or(0);
+        if count == 0 {
+            break;
+        }
+        done += count;
+    }
+    done
 }
 
 fn wide(b: u8) -> u64 {
@@ -193,21 +218,28 @@ fn print_part(part: &[u64], out: &mut [u8]) -> usize {
 }
 
 // Whether a purge rewrote, to standard output.
-fn send_purged(reply: ReplyWords, out: &mut [u8]) {
+fn send_purged(to: Stdout, reply: ReplyWords, out: &mut [u8]) {
     let told = reply.values;
     let value = [told[0]];
     let size = print_line(b'p', reply.number, &value, out);
-    send(out, size);
+    send(to, out, size);
 }
 
 // A purge: whether it rewrote, and on a line of its own the rows in force.
-fn purge(state: State, table: Table, rows: &mut [u64], lot: u64, out: &mut [u8]) -> Said {
+fn purge(
+    to: Stdout,
+    state: State,
+    table: Table,
+    rows: &mut [u64],
+    lot: u64,
+    out: &mut [u8],
+) -> Said {
     let none = [0u64; 0];
     let mut bitmap = [STALE; BYTES];
     let command = Command::Purge { partition: lot };
     let done = dispatch::turn(state, table, rows, &none, &mut bitmap, command);
     let answer = done.answer;
-    send_purged(reply_of(answer), out);
+    send_purged(to, reply_of(answer), out);
     let live = store::part::live_rows(state, rows, lot, answer);
     let more = print_part(live, out);
     let s = done.state;
@@ -388,6 +420,7 @@ fn calls(
 
 // A line of a small letter, and its first four numbers.
 fn edge(
+    to: Stdout,
     state: State,
     table: Table,
     rows: &mut [u64],
@@ -416,7 +449,7 @@ fn edge(
             d as usize,
             out,
         ),
-        b'p' => purge(state, table, &mut rows[0..ROWS_LENT], a, out),
+        b'p' => purge(to, state, table, &mut rows[0..ROWS_LENT], a, out),
         b'k' => save(state, table, &mut rows[0..ROWS_LENT], a, b, out),
         _ => calls(state, table, rows, letter, a, b, c, out),
     }
@@ -488,6 +521,7 @@ fn session_line(
 
 // One line of the cases, with its end. Of a line of a small letter the letter was taken, and A put in its place.
 fn say(
+    to: Stdout,
     state: State,
     table: Table,
     letter: u8,
@@ -512,7 +546,7 @@ fn say(
         return silent(state, table);
     }
     edge(
-        state, table, rows, letter, numbers[0], numbers[1], numbers[2], numbers[3], out,
+        to, state, table, rows, letter, numbers[0], numbers[1], numbers[2], numbers[3], out,
     )
 }
 
@@ -540,6 +574,7 @@ fn as_append(letter: u8) -> u8 {
 
 // The line from `used` on, among the first n bytes; one that starts with `#` is printed as it is.
 fn step(
+    to: Stdout,
     state: State,
     table: Table,
     input: &mut [u8],
@@ -562,7 +597,8 @@ fn step(
     let letter = input[used];
     let next = stop + 1;
     if letter == b'#' {
-        io::write_all(STDOUT_FILENO, &input[used..next]);
+        let line = &input[used..next];
+        send(to, line, line.len());
         return Stepped {
             state: state,
             table: table,
@@ -573,10 +609,19 @@ fn step(
     if input.len() < next {
         return ended(state, table);
     }
-    let said = say(state, table, letter, &input[used..next], rows, numbers, out);
+    let said = say(
+        to,
+        state,
+        table,
+        letter,
+        &input[used..next],
+        rows,
+        numbers,
+        out,
+    );
     let s = said.state;
     let t = said.table;
-    send(out, said.written);
+    send(to, out, said.written);
     Stepped {
         state: s,
         table: t,
@@ -585,7 +630,14 @@ fn step(
 }
 
 // Line after line. A proved loop has to end, so it counts its turns down; the input has fewer lines than bytes.
-fn run(input: &mut [u8], n: usize, rows: &mut [u64], numbers: &mut [u64], out: &mut [u8]) {
+fn run(
+    to: Stdout,
+    input: &mut [u8],
+    n: usize,
+    rows: &mut [u64],
+    numbers: &mut [u64],
+    out: &mut [u8],
+) {
     let first = poke::blank();
     let mut state = first.state;
     let mut table = first.table;
@@ -593,7 +645,7 @@ fn run(input: &mut [u8], n: usize, rows: &mut [u64], numbers: &mut [u64], out: &
     let mut turns = n;
     while 0 < turns {
         turns -= 1;
-        let done = step(state, table, input, n, used, rows, numbers, out);
+        let done = step(to, state, table, input, n, used, rows, numbers, out);
         let s = done.state;
         let t = done.table;
         state = s;
@@ -605,11 +657,18 @@ fn run(input: &mut [u8], n: usize, rows: &mut [u64], numbers: &mut [u64], out: &
     }
 }
 
-fn main() {
-    let mut input = io::large_buffer();
-    let n = io::read_full(STDIN_FILENO, &mut input);
+fn main(rt: HostRuntime) {
+    let mut input = [0u8; INPUT_MAX];
+    let n = read_full(rt.stdin(), &mut input);
     let mut rows = [0u64; ROWS_MORE];
     let mut numbers = [0u64; NUMBERS_MAX];
     let mut out = [0u8; ANSWER_MAX];
-    run(&mut input, n, &mut rows, &mut numbers, &mut out);
+    run(
+        rt.stdout(),
+        &mut input,
+        n,
+        &mut rows,
+        &mut numbers,
+        &mut out,
+    );
 }

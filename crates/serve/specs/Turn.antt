@@ -2,7 +2,27 @@
 -- In order: Roomy; the bytes held, what a read makes of them; owed, Standing, Opened; Answered, Turned.
 -- Laws: proofs/Laws/Turn.antt.
 -- Assumes nothing.
-use Rattle.std.specs.Prelude.{◌≡◌, Bool, true, false, not, ◌&&◌, cond, List, [], ◌∷◌, ◌++◌, ℕ, ◌+◌, ◌≤◌, ◌<◌, eqb, length, take, drop}
+use Rattle.std.specs.Prelude.{
+  ◌≡◌,
+  Bool,
+  true,
+  false,
+  not,
+  ◌&&◌,
+  cond,
+  List,
+  [],
+  ◌∷◌,
+  ◌++◌,
+  ℕ,
+  ◌+◌,
+  ◌≤◌,
+  ◌<◌,
+  eqb,
+  length,
+  take,
+  drop,
+}
 use Rattle.rules.specs.Store.{Store}
 use Rattle.session_line.specs.Session.{answers_to}
 use Rattle.session_line.specs.Rooms.{numbers_max, answer_max}

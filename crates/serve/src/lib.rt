@@ -10,11 +10,14 @@ ghost use Rattle.serve.specs.Run.{RunTo};
 ghost use Rattle.serve.specs.Ends.{status_of, IsStatus};
 
 use crate::turn::{Got, Session, is_done, opening, turn};
-use libc::{STDERR_FILENO, STDIN_FILENO, STDOUT_FILENO};
 use rules::limits::ROWS_LENT;
 use session_line::limits::NUMBERS_MAX;
+use std::io::{Read, Stderr, Stdin, Stdout, Write};
 
 mod turn;
+
+// Bytes of input, and of answers, that a session holds at a time.
+const BUFFER_MAX: usize = 65536;
 
 // How a session ended: all input read and all answers written, or what failed.
 #[derive(Clone, Copy)]
@@ -25,7 +28,7 @@ enum Ended {
 }
 
 // More of standard input, behind the bytes held, where more is wanted.
-fn read_more(s: Session, input: &mut [u8]) -> Got
+fn read_more(from: Stdin, s: Session, input: &mut [u8]) -> Got
     requires { s.end ≤ length input.old }
     ensures { (s.end + result.count ≤ length input.new)
         × (take s.end input.new ≡ take s.end input.old) }
@@ -37,18 +40,26 @@ fn read_more(s: Session, input: &mut [u8]) -> Got
             failed: false,
         };
     }
-    let got = libc::read(STDIN_FILENO, &mut input[held..]);
-    let count = io::count(got, &input[held..]);
-    let failed = got < 0;
-    Got { count, failed }
+    let mut stdin = from;
+    match stdin.read(&mut input[held..]) {
+        Ok(count) => Got {
+            count,
+            failed: false,
+        },
+        Err(_) => Got {
+            count: 0,
+            failed: true,
+        },
+    }
 }
 
 // The answers of a turn, to standard output.
-fn send(s: Session, out: &[u8]) -> bool
+fn send(to: Stdout, s: Session, out: &[u8]) -> bool
     requires { s.written ≤ length out.now }
 {
     let written = s.written;
-    io::write_all(STDOUT_FILENO, &out[..written])
+    let mut stdout = to;
+    stdout.write_all(&out[..written]).is_ok()
 }
 
 // How a session ended, and how it was left.
@@ -61,6 +72,8 @@ struct Served {
 // Turn after turn, until all is answered. A proved loop has to end, so a session counts its turns down, from a number
 // that no run uses up.
 fn serve(
+    from: Stdin,
+    to: Stdout,
     first: Session,
     rows: &mut [u64],
     numbers: &mut [u64],
@@ -74,7 +87,7 @@ fn serve(
 {
     let mut s = first;
     while s.turns > 0 {
-        let got = read_more(s, input);
+        let got = read_more(from, s, input);
         if got.failed {
             return Served {
                 ended: Ended::Unread,
@@ -83,7 +96,7 @@ fn serve(
         }
         let t = turn(s, got, input, rows, numbers, out);
         s = t;
-        if !send(s, out) {
+        if !send(to, s, out) {
             return Served {
                 ended: Ended::Unwritten,
                 session: s,
@@ -103,25 +116,34 @@ fn serve(
 }
 
 // A whole session.
-fn session() -> Ended {
+fn session(from: Stdin, to: Stdout) -> Ended {
     let mut rows = [0u64; ROWS_LENT];
     let mut numbers = [0u64; NUMBERS_MAX];
-    let mut input = io::large_buffer();
-    let mut out = io::large_buffer();
+    let mut input = [0u8; BUFFER_MAX];
+    let mut out = [0u8; BUFFER_MAX];
     let first = opening(&mut rows);
-    let served = serve(first, &mut rows, &mut numbers, &mut input, &mut out);
+    let served = serve(
+        from,
+        to,
+        first,
+        &mut rows,
+        &mut numbers,
+        &mut input,
+        &mut out,
+    );
     served.ended
 }
 
-// A failure is a line on standard error.
-fn tell(ended: Ended) {
+// A failure is a line on standard error. Where that cannot be written either, the status alone says it.
+fn tell(to: Stderr, ended: Ended) {
+    let mut stderr = to;
     match ended {
         Ended::All => {}
         Ended::Unread => {
-            io::write_all(STDERR_FILENO, b"session: cannot read standard input\n");
+            let _ = stderr.write_all(b"session: cannot read standard input\n");
         }
         Ended::Unwritten => {
-            io::write_all(STDERR_FILENO, b"session: cannot write standard output\n");
+            let _ = stderr.write_all(b"session: cannot write standard output\n");
         }
     }
 }
@@ -139,11 +161,10 @@ fn status(ended: Ended) -> i32
 
 // A whole session as a program: answers its exit status, 0 or 1. This only limits it: which of the two lies with what
 // is read and written, of which no contract can speak; `serve` and `status` say what each stands for.
-#[unsafe(no_mangle)]
-pub extern "C" fn nizgulk_session() -> i32
+pub fn nizgulk_session(input: Stdin, output: Stdout, errors: Stderr) -> i32
     ensures { IsStatus result }
 {
-    let ended = session();
-    tell(ended);
+    let ended = session(input, output);
+    tell(errors, ended);
     status(ended)
 }
