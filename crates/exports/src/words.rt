@@ -55,6 +55,7 @@ fn place_in(number: u64, partitions: Partitions, p: u64) -> Place
 }
 
 // The reply to a call that answers with no part.
+#[inline(always)]
 pub fn reply_to(k: Kept) -> Replied
     ensures { result ≡ replied_of k }
 {
@@ -73,6 +74,7 @@ pub fn reply_to(k: Kept) -> Replied
 }
 
 // The reply to a purge of partition p, with the part in force: all rows of p, where it was accepted.
+#[inline(always)]
 pub fn reply_to_purge(k: Kept, p: u64) -> Replied
     ensures { result ≡ purged_of k p }
 {

@@ -13,6 +13,7 @@ use rules::limits::PARTITIONS_MAX;
 use rules::{Answer, Clock, Kept, ManagerCall, Partition, Partitions, Refusal, RwTxns, State};
 
 // A call on the manager; rest says whether the rest of the store is sound.
+#[inline(always)]
 pub fn manage_core(state: State, rest: bool, call: ManagerCall) -> Kept
     ensures { result ≡ manager_kept state rest call }
 {
@@ -26,6 +27,7 @@ pub fn manage_core(state: State, rest: bool, call: ManagerCall) -> Kept
 }
 
 // An accepted call goes on to the lots.
+#[inline(always)]
 pub fn goes_on(done: Kept) -> bool
     ensures { result ≡ accepted done.answer }
 {
@@ -37,6 +39,7 @@ pub fn goes_on(done: Kept) -> bool
 }
 
 // The totals of an accepted call; a refused one changes nothing.
+#[inline(always)]
 pub fn landed(done: Kept, totals: [u64; PARTITIONS_MAX]) -> Kept
     ensures { result ≡ landed_kept done totals }
 {
@@ -104,6 +107,7 @@ pub fn ask_call(
 }
 
 // A commit, by what the lots' test found.
+#[inline(always)]
 pub fn commit_core(state: State, r: Verdict, i: u64) -> Kept
     ensures { result ≡ rest_kept (manager_kept state r.ok (Commit i)) r }
 {
@@ -113,6 +117,7 @@ pub fn commit_core(state: State, r: Verdict, i: u64) -> Kept
 }
 
 // The manager's part of a roll back.
+#[inline(always)]
 pub fn roll_back_core(state: State, r: Verdict, i: u64) -> Kept
     ensures { result ≡ rest_kept (roll_back_kept state r.ok i) r }
 {
@@ -122,6 +127,7 @@ pub fn roll_back_core(state: State, r: Verdict, i: u64) -> Kept
 }
 
 // Any call on the manager.
+#[inline(always)]
 pub fn call_core(state: State, r: Verdict, call: ManagerCall) -> Kept
     ensures { result ≡ rest_kept (manager_kept state r.ok call) r }
 {
@@ -152,6 +158,7 @@ pub(crate) fn fresh() -> Partitions
     }
 }
 
+#[inline(always)]
 pub fn create_core(state: State, n: usize, m: usize, a: u64) -> Kept
     ensures { result ≡ create_kept state n m a }
 {

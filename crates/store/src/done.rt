@@ -7,6 +7,7 @@ use plan_purge::Purge;
 use plan_write::Write;
 use rules::{Kept, Partitions, State};
 
+#[inline(always)]
 pub fn write_done(state: State, w: Write) -> Kept
     ensures { result ≡ done_write state w }
 {
@@ -20,6 +21,7 @@ pub fn write_done(state: State, w: Write) -> Kept
     }
 }
 
+#[inline(always)]
 pub fn purge_done(state: State, w: Purge) -> Kept
     ensures { result ≡ done_purge state w }
 {
@@ -34,6 +36,7 @@ pub fn purge_done(state: State, w: Purge) -> Kept
 }
 
 // The books after a roll back's part of the manager, with the partitions that the lots' part left.
+#[inline(always)]
 pub fn roll_back_done(done: Kept, partitions: Partitions) -> Kept
     ensures { result ≡ done_roll_back done partitions }
 {

@@ -48,6 +48,7 @@ pub fn new_books(s: u64) -> State
 }
 
 // Making new at epoch a. It reads no state and writes no lent word. Refusals, in this order: 5 (the lengths), 4.
+#[inline(always)]
 pub fn create(state: State, entries: &[Entry], rows: &[u64], a: u64) -> Kept
     ensures { Left (step (create a) (store_of state rows.now entries.now))
         result rows.now entries.now }
@@ -58,6 +59,7 @@ pub fn create(state: State, entries: &[Entry], rows: &[u64], a: u64) -> Kept
 }
 
 // Any call that changes nothing but the manager, for a caller that has it as a value: the five that follow.
+#[inline(always)]
 pub fn manage(state: State, entries: &[Entry], rows: &[u64], call: ManagerCall) -> Kept
     ensures { Left (step (manage call) (store_of state rows.now entries.now))
         result rows.now entries.now }
@@ -74,6 +76,7 @@ pub fn manage(state: State, entries: &[Entry], rows: &[u64], call: ManagerCall) 
 }
 
 // A transaction (01: load) begins. Refusals, in this order: 5, 6, 7.
+#[inline(always)]
 pub fn begin(state: State, entries: &[Entry], rows: &[u64]) -> Kept
     ensures { Left (step begin (store_of state rows.now entries.now))
         result rows.now entries.now }
@@ -84,6 +87,7 @@ pub fn begin(state: State, entries: &[Entry], rows: &[u64]) -> Kept
 }
 
 // Transaction txn commits. Refusals, in this order: 5, 2.
+#[inline(always)]
 pub fn commit(state: State, entries: &[Entry], rows: &[u64], txn: u64) -> Kept
     ensures { Left (step (commit txn) (store_of state rows.now entries.now))
         result rows.now entries.now }
@@ -100,6 +104,7 @@ pub fn commit(state: State, entries: &[Entry], rows: &[u64], txn: u64) -> Kept
 }
 
 // A read-only transaction (01: page) begins at an epoch; 0 means LCE. Refusals, in this order: 5, 4, 6, 7.
+#[inline(always)]
 pub fn begin_ro(state: State, entries: &[Entry], rows: &[u64], epoch: u64) -> Kept
     ensures { Left (step (begin_ro epoch) (store_of state rows.now entries.now))
         result rows.now entries.now }
@@ -110,6 +115,7 @@ pub fn begin_ro(state: State, entries: &[Entry], rows: &[u64], epoch: u64) -> Ke
 }
 
 // The read-only transaction of a ticket ends. Refusals, in this order: 5, 2.
+#[inline(always)]
 pub fn end_ro(state: State, entries: &[Entry], rows: &[u64], ticket: u64) -> Kept
     ensures { Left (step (end_ro ticket) (store_of state rows.now entries.now))
         result rows.now entries.now }
@@ -120,6 +126,7 @@ pub fn end_ro(state: State, entries: &[Entry], rows: &[u64], ticket: u64) -> Kep
 }
 
 // LSE moves to a target; 0 means as far as it may go. Refusals, in this order: 5, 4, 10.
+#[inline(always)]
 pub fn advance_lse(state: State, entries: &[Entry], rows: &[u64], target: u64) -> Kept
     ensures { Left (step (advance_lse target) (store_of state rows.now entries.now))
         result rows.now entries.now }
@@ -130,6 +137,7 @@ pub fn advance_lse(state: State, entries: &[Entry], rows: &[u64], target: u64) -
 }
 
 // The rows of batch to partition p (01: lot), by transaction txn (01: load). Refusals, in this order: 5, 1, 2, 8, 9.
+#[inline(always)]
 pub fn append(
     state: State,
     entries: &mut [Entry],
@@ -154,6 +162,7 @@ pub fn append(
 }
 
 // A clearing of partition p by transaction txn. Refusals, in this order: 5, 1, 2, 9.
+#[inline(always)]
 pub fn clear(state: State, entries: &mut [Entry], rows: &mut [u64], txn: u64, p: u64) -> Kept
     ensures { Left (step (clear txn p) (store_of state rows.old entries.old))
         result rows.new entries.new }
@@ -169,6 +178,7 @@ pub fn clear(state: State, entries: &mut [Entry], rows: &mut [u64], txn: u64, p:
 }
 
 // Rolling back transaction a in all partitions. Refusals, in this order: 5, 2.
+#[inline(always)]
 pub fn roll_back(state: State, entries: &mut [Entry], rows: &mut [u64], a: u64) -> Kept
     ensures { Left (step (rollback a) (store_of state rows.old entries.old))
         result rows.new entries.new }
@@ -232,6 +242,7 @@ pub fn scan_ro(
 }
 
 // Purging partition p at LSE. Refusals, in this order: 5, 1. part::live_rows returns the part in force.
+#[inline(always)]
 pub fn purge(state: State, entries: &mut [Entry], rows: &mut [u64], p: u64) -> Kept
     ensures { Left (step (purge p) (store_of state rows.old entries.old))
         result rows.new entries.new }
