@@ -10,7 +10,7 @@ use core::fmt;
 
 /// A store: the books, and the areas of entries and of rows that the calls are lent. No heap, no global state.
 ///
-/// It has 60,216 bytes, and a call uses up to 49,984 bytes of stack, the books and the reply included (`tools/stack`,
+/// It has 60,216 bytes, and a call uses up to 71,728 bytes of stack, the books and the reply included (`tools/stack`,
 /// built for release). [`Store::new`] hands a store over by value, which a small stack may not bear. To place one
 /// elsewhere from the start:
 ///

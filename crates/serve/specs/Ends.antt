@@ -1,7 +1,7 @@
 -- How a session ends, as an exit status.
 -- In order: status_of, IsStatus.
 -- Assumes nothing.
-use Rattle.std.specs.Prelude.{◌≡◌, ℕ, ◌≤◌, ℤ, pos, negsuc}
+use Rattle.std.specs.Prelude.{◌≤◌, ℤ, pos, negsuc}
 use Rattle.serve.specs.declared.Ended.{Ended}
 use Rattle.serve.specs.declared.Ended.TheVariants.{All, Unread, Unwritten}
 

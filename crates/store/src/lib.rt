@@ -1,6 +1,7 @@
 // The store: one public function for each call of 01, and one for any call on the manager. The books are kept by value,
 // the areas of rows and of entries are lent. Each call asks whether the lots are sound, loads what it needs of one lot,
 // decides by value, then writes; what it answers and leaves is rules' step.
+// What hands the books on by value is inlined: out of line, each step would keep a copy of them on the stack.
 #![tactic(auto)]
 
 ghost use Rattle.std.specs.Prelude.{◌≡◌};

@@ -2,8 +2,8 @@
 -- In order: run-owed, run-answers; what is reached, as the code goes.
 -- Assumes nothing.
 use mathlib.Core.Path.{◌≡◌, refl, sym, ◌∙◌, ap}
-use mathlib.Core.Bool.{Bool, true, false, ◌&&◌, cond}
-use mathlib.Core.List.{List, [], ◌∷◌, ◌++◌, append_assoc, append-nil}
+use mathlib.Core.Bool.{Bool, true, false, ◌&&◌}
+use mathlib.Core.List.{List, [], ◌++◌, append_assoc, append-nil}
 use Prim.Native.Nat.{ℕ}
 use native.Mathlib.Omega.{arith}
 use lib.ListN.{take, drop}
@@ -12,7 +12,7 @@ use Rattle.lists.proofs.Laws.Tests.{no_proof}
 use Rattle.rules.specs.Store.{Store}
 use Rattle.session_line.specs.Session.{answers_to}
 use Rattle.replay.specs.Lines.{lines_in, bytes_of}
-use Rattle.replay.specs.Chunks.{rest_in, session_lines}
+use Rattle.replay.specs.Chunks.{session_lines}
 use Rattle.serve.specs.Turn.{held_in, came_in, ended_by, owed, Standing, Opened, Turned}
 use Rattle.serve.specs.Run.{Run, opened, next, Reached, RunTo}
 use Rattle.serve.specs.declared.Ended.TheVariants.{All, Unread, Unwritten}

@@ -1,7 +1,7 @@
 -- `serve::turn::answer` meets its contract: some lines are answered and the rest stays where it is, or none is left and
 -- the rest is moved to the front.
 -- Assumes nothing.
-use Rattle.std.proofs.Common.{◌≡◌, refl, ◌+◌, ◌≤◌, arith}
+use Rattle.std.proofs.Common.{refl, ◌+◌, ◌≤◌, arith}
 use Rattle.store.specs.Kept.{store_of}
 use Rattle.serve.proofs.Laws.Turn.{used-end, answered-some, answered-none}
 use Rattle.serve.proofs.turn.answer.Goals as goal

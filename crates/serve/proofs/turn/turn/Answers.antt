@@ -1,6 +1,6 @@
 -- `serve::turn::turn` meets its contract: what is taken in is what was held and what came, and `answer` answers that.
 -- Assumes nothing.
-use Rattle.std.proofs.Common.{◌≡◌, ◌∙◌, ap, Bool, cond, drop}
+use Rattle.std.proofs.Common.{◌∙◌, ap, Bool, cond, drop}
 use Rattle.serve.specs.Turn.{taken_in}
 use Rattle.serve.proofs.Laws.Turn.{turned}
 use Rattle.serve.proofs.turn.turn.Goals as goal
