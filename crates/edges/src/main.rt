@@ -3,11 +3,8 @@
 // lines.
 #![tactic(auto)]
 
-<<<<<<< HEAD
-=======
 ghost use Rattle.std.specs.Prelude.{◌≤◌, length};
 
->>>>>>> bdd563da0dbf7b3048ec7f6a9fe7f3e5add19a8f
 use lent::Table;
 use places::in_use;
 use reply::{ReplyWords, VALUES_MAX, reply_of};
