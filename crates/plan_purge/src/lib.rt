@@ -112,7 +112,7 @@ pub fn purge_core(state: State, rest: bool, a: Area, n: usize, m: usize, p: u64)
     }
 }
 
-// The new entries, and where each goes, by calls: the walk of put_purge then knows no field of a purge.
+// The new entries, and where each goes, by calls: put_purge then knows no field of a purge.
 pub fn entries_of(w: Purge) -> [Entry; ENTRIES_MAX]
     ensures { result ≡ new_of w }
 {

@@ -96,7 +96,7 @@ pub fn recover_core(file: &[u8], n: usize, m: usize) -> Restored
     restore_from(file, n, h)
 }
 
-// An entry for each partition, and where it goes, by calls: the walk of put_entries then knows no field of a plan.
+// An entry for each partition, and where it goes, by calls: put_entries then knows no field of a plan.
 pub fn entries_of(w: Restored) -> [Entry; PARTITIONS_MAX]
     ensures { result ≡ new_of w }
 {

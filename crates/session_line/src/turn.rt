@@ -1,5 +1,5 @@
-// One turn of the loop over lines: a line found, read, answered. 01 "A session". The loop is proved by hand, since it
-// lends the entries; what it does beside its call of dispatch stands here, in functions that are not.
+// One turn of the loop over lines: a line found, read, answered. 01 "A session". What the loop does beside its call of
+// dispatch stands here.
 ghost use Rattle.std.specs.Prelude.{◌≡◌, ◌++◌, ◌+◌, ◌-◌, min, leb, length, take, drop};
 ghost use Rattle.lists.specs.Lists.{part, over};
 ghost use Rattle.session_text.specs.Lines.{size_in, written_in};
