@@ -7,25 +7,16 @@ ghost use Rattle.admit.specs.Admit.{admitted};
 use rules::limits::PARTITIONS_MAX;
 use rules::{Partition, Partitions, Refusal};
 
-// The partition, or why the call is refused.
-#[derive(Clone, Copy)]
-pub enum Admitted {
-    To(Partition),
-    Not(Refusal),
-}
-
-// To partition p of ps; sound says whether the store is.
-pub fn admit(sound: bool, ps: Partitions, p: u64) -> Admitted
+// Partition p of ps, or why the call is refused; sound says whether the store is.
+pub fn admit(sound: bool, ps: Partitions, p: u64) -> Result<Partition, Refusal>
     ensures { result ≡ admitted sound ps p }
 {
     if !sound {
-        return Admitted::Not(Refusal::Unsound);
+        return Err(Refusal::Unsound);
     }
     let places = PARTITIONS_MAX as u64;
     if places <= p {
-        return Admitted::Not(Refusal::UnknownPartition);
+        return Err(Refusal::UnknownPartition);
     }
-    let place = p as usize;
-    let q = ps.at[place];
-    Admitted::To(q)
+    Ok(ps.at[p as usize])
 }

@@ -3,6 +3,7 @@
 -- the area is area_at).
 -- Assumes nothing.
 use Rattle.std.specs.Prelude.{◌||◌, cond, List, ℕ, ◌+◌, ◌*◌, ◌-◌, get_or, replicate, ltb, leb}
+use Rattle.std.specs.Prelude.{Option, None, Some}
 use Rattle.rules.specs.Limits.{areas_max, entries_max}
 use Rattle.rules.specs.Store.{no_partition}
 use Rattle.rules.specs.declared.Entry.{Entry}
@@ -29,11 +30,16 @@ loaded_area es ps p = record {
 
 -- ---- its last entry
 
--- past the end where it has none, or its area or count is out of range
-unfoldable pub last_index : Partition → ℕ
+-- its index, where it has one, and its area and count are in range
+unfoldable pub last_index : Partition → Option ℕ
 last_index q =
-    cond (ltb q.entries 1 || ltb entries_max q.entries || leb areas_max q.area) (entries_max * areas_max)
-    (entries_max * q.area + (q.entries - 1))
+    cond (ltb q.entries 1 || ltb entries_max q.entries || leb areas_max q.area) None
+    (Some (entries_max * q.area + (q.entries - 1)))
+
+-- the entry at such an index
+abbrev pub entry_at : List Entry → Option ℕ → Entry
+entry_at es None = none
+entry_at es (Some i) = get_or es i none
 
 unfoldable pub last_entry : List Entry → Partitions → ℕ → Entry
-last_entry es ps p = get_or es (last_index (partition_in ps p)) none
+last_entry es ps p = entry_at es (last_index (partition_in ps p))

@@ -2,9 +2,9 @@
 // entries read out of those lent.
 #![tactic(auto)]
 
-ghost use Rattle.std.specs.Prelude.{◌≡◌};
+ghost use Rattle.std.specs.Prelude.{◌≡◌, ◌≤◌, length};
 ghost use Rattle.rules.specs.Limits.{rows_max, entries_max};
-ghost use Rattle.area.specs.Area.{base_of, place_at};
+ghost use Rattle.area.specs.Area.{base_of, place_at, entries_in};
 ghost use Rattle.area.specs.Load.{partition_in, no_entries, loaded_area, last_index, last_entry};
 
 use lent::read_entry;
@@ -19,47 +19,49 @@ pub struct Area {
     pub count: usize,
 }
 
-// The index of an area's first entry; of the first area's where the area is none of the nine.
-pub fn entry_base(area: usize) -> usize
-    ensures { result ≡ base_of entries_max area }
+impl Area {
+    // The entries in use; a count beyond the places says that all are.
+    pub fn entries(&self) -> &[Entry]
+        ensures value { result.now ≡ entries_in self.now }
+        ensures few { length result.now ≤ entries_max }
+    {
+        &self.at[..self.count.min(ENTRIES_MAX)]
+    }
+}
+
+// The index of an area's first element, where each has N; of the first area's where the area is none of the nine.
+fn base<const N: usize>(area: usize) -> usize
+    requires { N ≤ rows_max }
+    ensures { result ≡ base_of N area }
 {
     if area < AREAS_MAX {
-        return ENTRIES_MAX * area;
+        return N * area;
     }
     0
 }
 
-// The index of an area's first row; of the first area's where the area is none of the nine.
+// Of its entries.
+pub fn entry_base(area: usize) -> usize
+    ensures { result ≡ base_of entries_max area }
+{
+    base::<ENTRIES_MAX>(area)
+}
+
+// Of its rows.
 pub fn row_base(area: usize) -> usize
     ensures { result ≡ base_of rows_max area }
 {
-    if area < AREAS_MAX {
-        return ROWS_MAX * area;
-    }
-    0
+    base::<ROWS_MAX>(area)
 }
 
 // Partition p; above 7 there is none.
 pub fn partition_at(ps: Partitions, p: u64) -> Partition
     ensures { result ≡ partition_in ps p }
 {
-    let places = PARTITIONS_MAX as u64;
-    if p < places {
-        let i = p as usize;
-        return ps.at[i];
+    if p < PARTITIONS_MAX as u64 {
+        return ps.at[p as usize];
     }
-    Partition {
-        area: 0,
-        rows: 0,
-        entries: 0,
-    }
-}
-
-// The same of a partition by its place.
-pub fn place_of(ps: Partitions, p: usize) -> Partition
-    ensures { result ≡ partition_in ps p }
-{
-    partition_at(ps, p as u64)
+    Partition::default()
 }
 
 // The same for a loop over all of them: each by its number, since at an index that varies all are copied at each turn.
@@ -75,15 +77,12 @@ pub fn each_place(ps: Partitions, p: usize) -> Partition
         5 => ps.at[5],
         6 => ps.at[6],
         7 => ps.at[7],
-        _ => Partition {
-            area: 0,
-            rows: 0,
-            entries: 0,
-        },
+        _ => Partition::default(),
     }
 }
 
 // Where entry i goes, of `count` that are put from index `base` on; `past` where it is not in use, or out of range.
+#[tactic(auto, unfolding(crate::specs::Area::place_at))]
 pub fn place_at(count: usize, base: usize, past: usize, i: usize) -> usize
     ensures { result ≡ place_at count base past i }
 {
@@ -99,69 +98,48 @@ pub fn place_at(count: usize, base: usize, past: usize, i: usize) -> usize
     base + i
 }
 
-// The index of the first entry of partition q.
-fn base_of(q: Partition) -> usize
-    ensures { result ≡ base_of entries_max q.area }
+// The lent entries of partition p, blank where there are fewer.
+#[tactic(auto, unfolding(crate::specs::Load::loaded_area, crate::specs::Load::no_entries, lent::specs::Shapes::loaded))]
+pub fn load(entries: &[Entry], ps: Partitions, p: u64) -> Area
+    ensures { result ≡ loaded_area entries.now ps p }
 {
-    entry_base(q.area)
-}
-
-fn blank() -> [Entry; ENTRIES_MAX]
-    ensures { result ≡ no_entries }
-{
-    [Entry {
-        epoch: 0,
-        end: 0,
-        mark: 0,
-    }; ENTRIES_MAX]
-}
-
-fn to_area(at: [Entry; ENTRIES_MAX], q: Partition) -> Area
-    ensures { result ≡ record { at = at; count = q.entries } }
-{
+    let q = partition_at(ps, p);
+    let base = entry_base(q.area);
+    let mut at = [Entry::default(); ENTRIES_MAX];
+    for i in 0..ENTRIES_MAX {
+        at[i] = read_entry(entries, base + i);
+    }
     Area {
         at: at,
         count: q.entries,
     }
 }
 
-// The lent entries of partition p, blank where there are fewer.
-pub fn load(entries: &[Entry], ps: Partitions, p: u64) -> Area
-    ensures { result ≡ loaded_area entries.now ps p }
-{
-    let q = partition_at(ps, p);
-    let base = base_of(q);
-    let mut a = blank();
-    let mut i = 0;
-    while i < ENTRIES_MAX {
-        let j = base + i;
-        a[i] = read_entry(entries, j);
-        i = i + 1;
-    }
-    to_area(a, q)
-}
-
-// The index of the last entry of partition p, past the end where there is none or a number is out of range.
-fn last_index(ps: Partitions, p: u64) -> usize
+// The index of the last entry of partition p, where it has one and its numbers are in range.
+#[tactic(auto, unfolding(crate::specs::Load::last_index))]
+fn last_index(ps: Partitions, p: u64) -> Option<usize>
     ensures { result ≡ last_index (partition_in ps p) }
 {
     let q = partition_at(ps, p);
     if q.entries < 1 {
-        return ENTRIES_LENT;
+        return None;
     }
     if ENTRIES_MAX < q.entries {
-        return ENTRIES_LENT;
+        return None;
     }
     if AREAS_MAX <= q.area {
-        return ENTRIES_LENT;
+        return None;
     }
-    ENTRIES_MAX * q.area + (q.entries - 1)
+    Some(ENTRIES_MAX * q.area + (q.entries - 1))
 }
 
 // The last lent entry of partition p, the blank one where there is none.
+#[tactic(auto, unfolding(crate::specs::Load::last_entry))]
 pub fn last_entry(entries: &[Entry], ps: Partitions, p: u64) -> Entry
     ensures { result ≡ last_entry entries.now ps p }
 {
-    let i = last_index(ps, p);
-    read_entry(entries, i)
+    match last_index(ps, p) {
+        Some(i) => read_entry(entries, i),
+        None => Entry::default(),
+    }
 }

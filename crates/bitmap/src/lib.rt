@@ -5,11 +5,9 @@ ghost use Rattle.std.specs.Prelude.{◌≡◌};
 ghost use Rattle.rules.specs.Bitmap.{bytes_for};
 
 // The bytes that so many rows need.
+#[tactic(auto, unfolding(rules::specs::Bitmap::bytes_for))]
 pub fn bytes_for(rows: usize) -> usize
     ensures { result ≡ bytes_for rows }
 {
-    if rows % 8 == 0 {
-        return rows / 8;
-    }
-    rows / 8 + 1
+    rows.div_ceil(8)
 }

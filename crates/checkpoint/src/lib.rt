@@ -18,11 +18,3 @@ pub struct Header {
     pub counts: [usize; PARTITIONS_MAX],
     pub body: usize,
 }
-
-// The header of the last whole checkpoint of a file, one of epoch 0 without rows where there is none, or where a header
-// may not stand where it does: then the file is corrupt (02: 11).
-#[derive(Clone, Copy)]
-pub struct Found {
-    pub corrupt: bool,
-    pub header: Header,
-}

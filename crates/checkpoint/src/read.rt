@@ -4,11 +4,12 @@ ghost use Rattle.lists.specs.Lists.{all_of, over};
 ghost use Rattle.rules.specs.Limits.{rows_max, partitions_max};
 ghost use Rattle.rules.specs.Checkpoint.{numbers_in, sum_of, body_size, header_size, header_ok};
 ghost use Rattle.rules.specs.Weight.{weight};
-ghost use Rattle.checkpoint.specs.Header.{no_header, found_at, not_found, header_at, header_in};
+ghost use Rattle.checkpoint.specs.Header.{no_header, header_at, header_in};
 ghost use Rattle.checkpoint.specs.Rows.{rows_read, weight_read};
 
 use crate::number::{count_at, has_room, word_at};
-use crate::{Found, HEADER_SIZE, Header};
+use crate::{HEADER_SIZE, Header};
+use rules::Refusal;
 use rules::limits::{PARTITIONS_MAX, ROWS_MAX};
 
 // A row's low 32 bits are milligrams.
@@ -25,37 +26,14 @@ fn no_header() -> Header
     }
 }
 
-// The file is sound, as far as it goes.
-fn found(h: Header) -> Found
-    ensures { result ≡ found_at h }
-{
-    Found {
-        corrupt: false,
-        header: h,
-    }
-}
-
-// A header may not stand where it does (02: 11).
-fn corrupted() -> Found
-    ensures { result ≡ not_found }
-{
-    let h = no_header();
-    Found {
-        corrupt: true,
-        header: h,
-    }
-}
-
 // The row counts from `at` on.
 fn counts_at(file: &[u8], at: usize) -> [usize; PARTITIONS_MAX]
     requires { at + 16 ≤ length file.now }
     ensures { result ≡ numbers_in 2 partitions_max (drop at file.now) }
 {
-    let mut counts: [usize; PARTITIONS_MAX] = [0; PARTITIONS_MAX];
-    let mut k: usize = 0;
-    while k < PARTITIONS_MAX {
+    let mut counts = [0; PARTITIONS_MAX];
+    for k in 0..PARTITIONS_MAX {
         counts[k] = count_at(file, at + 2 * k);
-        k += 1;
     }
     counts
 }
@@ -65,11 +43,9 @@ fn header_at(file: &[u8], at: usize) -> Header
     requires { at + header_size ≤ length file.now }
     ensures { result ≡ header_at file.now at }
 {
-    let epoch = word_at(file, at);
-    let counts = counts_at(file, at + 8);
     Header {
-        epoch: epoch,
-        counts: counts,
+        epoch: word_at(file, at),
+        counts: counts_at(file, at + 8),
         body: at + HEADER_SIZE,
     }
 }
@@ -78,14 +54,7 @@ fn header_at(file: &[u8], at: usize) -> Header
 fn counts_ok(counts: [usize; PARTITIONS_MAX]) -> bool
     ensures { result ≡ all_of (λ n. leb n rows_max) counts }
 {
-    let mut k: usize = 0;
-    while k < PARTITIONS_MAX {
-        if ROWS_MAX < counts[k] {
-            return false;
-        }
-        k += 1;
-    }
-    true
+    counts.iter().all(|n| *n <= ROWS_MAX)
 }
 
 // How many rows they are.
@@ -93,11 +62,9 @@ fn total(counts: [usize; PARTITIONS_MAX]) -> usize
     requires { all_of (λ n. leb n rows_max) counts ≡ true }
     ensures { (result ≡ sum_of counts) × (result ≤ rows_max * partitions_max) }
 {
-    let mut sum: usize = 0;
-    let mut k: usize = 0;
-    while k < PARTITIONS_MAX {
-        sum += counts[k];
-        k += 1;
+    let mut sum = 0;
+    for n in &counts {
+        sum += *n;
     }
     sum
 }
@@ -107,11 +74,11 @@ fn end_of(h: Header) -> usize
     requires { (all_of (λ n. leb n rows_max) h.counts ≡ true) × (h.body < 9223372036854775808) }
     ensures { result ≡ h.body + body_size h.counts }
 {
-    let counts = h.counts;
-    h.body + 8 * total(counts)
+    h.body + 8 * total(h.counts)
 }
 
 // It may follow a checkpoint of epoch `before`, where `last` is the greatest epoch (02: 11).
+#[tactic(auto, unfolding(rules::specs::Checkpoint::header_ok))]
 fn header_ok(last: u64, before: u64, h: Header) -> bool
     ensures { result ≡ header_ok last before h.epoch h.counts }
 {
@@ -131,27 +98,27 @@ fn header_ok(last: u64, before: u64, h: Header) -> bool
     total(counts) == 0
 }
 
-// The header of the last whole checkpoint of a file, where `last` is the greatest epoch. Each is judged before its
-// bodies are looked for; what is left of a cut file is no checkpoint.
-pub fn find(file: &[u8], last: u64) -> Found
+// The header of the last whole checkpoint of a file, where `last` is the greatest epoch, and one of epoch 0 without
+// rows where there is none. Each is judged before its bodies are looked for: one that may not stand where it does makes
+// the file corrupt (02: 11). What is left of a cut file is no checkpoint.
+pub fn find(file: &[u8], last: u64) -> Result<Header, Refusal>
     ensures { result ≡ header_in last file.now }
 {
-    let n = file.len();
     let mut h = no_header();
     let mut i: usize = 0;
-    while HEADER_SIZE <= n - i {
+    while HEADER_SIZE <= file.len() - i {
         let g = header_at(file, i);
         if !header_ok(last, h.epoch, g) {
-            return corrupted();
+            return Err(Refusal::Corrupt);
         }
         let end = end_of(g);
-        if n < end {
-            return found(h);
+        if file.len() < end {
+            break;
         }
         h = g;
         i = end;
     }
-    found(h)
+    Ok(h)
 }
 
 // The rows that stand in the file from byte `from` on, to rows[at..].
@@ -160,10 +127,8 @@ fn copy(rows: &mut [u64], at: usize, file: &[u8], from: usize, count: usize)
     ensures { rows.new
         ≡ over at (numbers_in 8 count (drop from file.now)) rows.old }
 {
-    let mut j: usize = 0;
-    while j < count {
+    for j in 0..count {
         rows[at + j] = word_at(file, from + 8 * j);
-        j += 1;
     }
 }
 
@@ -173,36 +138,30 @@ fn sum(file: &[u8], from: usize, count: usize) -> u64
     ensures { result ≡ weight (numbers_in 8 count (drop from file.now)) }
 {
     let mut s: u64 = 0;
-    let mut j: usize = 0;
-    while j < count {
+    for j in 0..count {
         s += word_at(file, from + 8 * j) % MILLIGRAMS;
-        j += 1;
     }
     s
 }
 
 // `count` rows of the file, from byte `from` on, to rows[at..]; nothing is written where they do not fit.
+#[tactic(auto, unfolding(crate::specs::Rows::rows_read))]
 pub fn copy_rows(rows: &mut [u64], at: usize, file: &[u8], from: usize, count: usize)
     ensures { rows.new ≡ rows_read at from count file.now rows.old }
 {
-    if !has_room(rows.len(), at, count) {
-        return;
+    if has_room(rows.len(), at, count) && has_room(file.len(), from, 8 * count) {
+        copy(rows, at, file, from, count);
     }
-    if !has_room(file.len(), from, 8 * count) {
-        return;
-    }
-    copy(rows, at, file, from, count);
 }
 
 // What they weigh, 0 where there are no such rows of a partition.
+#[tactic(auto, unfolding(crate::specs::Rows::weight_read))]
 pub fn weigh(file: &[u8], from: usize, count: usize) -> u64
     ensures { result ≡ weight_read from count file.now }
 {
-    if ROWS_MAX < count {
-        return 0;
+    if count <= ROWS_MAX && has_room(file.len(), from, 8 * count) {
+        sum(file, from, count)
+    } else {
+        0
     }
-    if !has_room(file.len(), from, 8 * count) {
-        return 0;
-    }
-    sum(file, from, count)
 }

@@ -1,7 +1,10 @@
-// A word of the store overwritten, by the number that names it. The numbers are those of model/src/bin/edges.rs.
+// The store of the cases, and a word of it overwritten, by the number that names it. The numbers are those of
+// model/src/bin/edges.rs.
+ghost use Rattle.std.specs.Prelude.{◌<◌, MatchOption};
+
 use lent::Table;
 use rules::limits::{DEPS_MAX, PARTITIONS_MAX, WRITERS_MAX};
-use rules::{Clock, Entry, Partition, Partitions, RoTxn, RoTxns, RwTxn, RwTxns, State};
+use rules::{Entry, Partition, Partitions, State};
 
 // The last place of a transaction.
 const LAST_PLACE: usize = WRITERS_MAX - 1;
@@ -9,221 +12,100 @@ const LAST_PLACE: usize = WRITERS_MAX - 1;
 // The last place of a dep of the first transaction.
 const LAST_DEP: usize = DEPS_MAX - 1;
 
+// The books and the entries; the rows are lent beside them.
 #[derive(Clone, Copy)]
-pub(crate) struct Poked {
+pub(crate) struct Store {
     pub state: State,
     pub table: Table,
 }
 
-// Before the first making new: all partitions in one area, which is unsound.
-pub(crate) fn blank() -> Poked {
-    let mut state = store::new_books(1);
-    let at = [Partition {
-        area: 0,
-        rows: 0,
-        entries: 0,
-    }; PARTITIONS_MAX];
-    let partitions = Partitions { at: at, spare: 0 };
-    state.partitions = partitions;
-    let entries = lent::blank();
-    let table = lent::to_table(entries);
-    Poked {
-        state: state,
-        table: table,
+impl Store {
+    // Before the first making new: all partitions in one area, which is unsound.
+    pub(crate) fn blank() -> Store {
+        let mut state = store::new_books(1);
+        state.partitions = Partitions {
+            at: [Partition {
+                area: 0,
+                rows: 0,
+                entries: 0,
+            }; PARTITIONS_MAX],
+            spare: 0,
+        };
+        Store {
+            state,
+            table: lent::to_table(lent::blank()),
+        }
+    }
+
+    // A word of the books or of the entries; `row` overwrites the rows.
+    pub(crate) fn poke(&mut self, field: u64, value: u64) {
+        let s = &mut self.state;
+        match field {
+            0 => s.clock.ec = value,
+            1 => s.clock.lce = value,
+            2 => s.clock.lse = value,
+            3 => s.readers.next = value,
+            4 => s.writers.count = value as usize,
+            5 => s.readers.count = value as usize,
+            6 => s.partitions.spare = value as usize,
+            10..=39 => partition(&mut s.partitions.at, field, value),
+            41 => s.writers.at[0].waiting = value,
+            42 => s.writers.at[0].deps = value as usize,
+            43 => s.deps[0] = value,
+            44 => s.writers.at[LAST_PLACE].epoch = value,
+            45 => s.deps[LAST_DEP] = value,
+            7..=9 | 40..=49 => s.writers.at[0].epoch = value,
+            50 => s.readers.at[0].ticket = value,
+            51 => s.readers.at[0].epoch = value,
+            52..=59 => s.readers.at[LAST_PLACE].ticket = value,
+            60..=69 => entry(&mut self.table.at, field, value),
+            70..=79 => total(&mut s.totals, field, value),
+            _ => {}
+        }
     }
 }
 
-fn clock(c: Clock, field: u64, value: u64) -> Clock {
-    let mut d = c;
-    match field {
-        0 => {
-            d.ec = value;
-        }
-        1 => {
-            d.lce = value;
-        }
-        _ => {
-            d.lse = value;
-        }
-    }
-    d
-}
-
-fn writer(t: RwTxn, field: u64, value: u64) -> RwTxn {
-    let mut u = t;
-    match field {
-        41 => {
-            u.waiting = value;
-        }
-        42 => {
-            u.deps = value as usize;
-        }
-        _ => {
-            u.epoch = value;
-        }
-    }
-    u
-}
-
-fn writers(w: RwTxns, field: u64, value: u64) -> RwTxns {
-    let mut ts = w;
-    if field == 4 {
-        ts.count = value as usize;
-        return ts;
-    }
-    if field == 44 {
-        let t = ts.at[LAST_PLACE];
-        let u = writer(t, field, value);
-        ts.at[LAST_PLACE] = u;
-        return ts;
-    }
-    let t = ts.at[0];
-    let u = writer(t, field, value);
-    ts.at[0] = u;
-    ts
-}
-
-fn readers(r: RoTxns, field: u64, value: u64) -> RoTxns {
-    let mut ps = r;
-    match field {
-        3 => {
-            ps.next = value;
-        }
-        5 => {
-            ps.count = value as usize;
-        }
-        50 => {
-            let e = ps.at[0].epoch;
-            ps.at[0] = RoTxn {
-                ticket: value,
-                epoch: e,
-            };
-        }
-        51 => {
-            let t = ps.at[0].ticket;
-            ps.at[0] = RoTxn {
-                ticket: t,
-                epoch: value,
-            };
-        }
-        _ => {
-            let e = ps.at[LAST_PLACE].epoch;
-            ps.at[LAST_PLACE] = RoTxn {
-                ticket: value,
-                epoch: e,
-            };
-        }
-    }
-    ps
-}
-
-// A word of the transaction manager.
-fn manager(state: State, field: u64, value: u64) -> State {
-    let mut n = state;
-    if field < 3 {
-        let c = clock(n.clock, field, value);
-        n.clock = c;
-        return n;
-    }
-    if field == 4 {
-        let ts = writers(n.writers, field, value);
-        n.writers = ts;
-        return n;
-    }
-    if field < 6 {
-        let ps = readers(n.readers, field, value);
-        n.readers = ps;
-        return n;
-    }
-    if field == 43 {
-        n.deps[0] = value;
-        return n;
-    }
-    if field == 45 {
-        n.deps[LAST_DEP] = value;
-        return n;
-    }
-    if field < 50 {
-        let ts = writers(n.writers, field, value);
-        n.writers = ts;
-        return n;
-    }
-    let ps = readers(n.readers, field, value);
-    n.readers = ps;
-    n
+// The place that the last digit names, where there is such a one.
+fn place_of(field: u64, count: usize) -> Option<usize>
+    ensures { MatchOption result (Unit {0}) (λ i. i < count) }
+{
+    let place = (field % 10) as usize;
+    if place < count { Some(place) } else { None }
 }
 
 // A word of lot `place`: its area (10), rows (20) or entries (30).
-fn partitions(ps: Partitions, field: u64, value: u64) -> Partitions {
-    let mut next = ps;
-    if field == 6 {
-        next.spare = value as usize;
-        return next;
-    }
-    let place = (field % 10) as usize;
-    if PARTITIONS_MAX <= place {
-        return next;
-    }
-    let q = next.at[place];
-    let mut area = q.area;
-    let mut rows = q.rows;
-    let mut entries = q.entries;
-    if field < 20 {
-        area = value as usize;
-    } else if field < 30 {
-        rows = value as usize;
-    } else {
-        entries = value as usize;
-    }
-    next.at[place] = Partition {
-        area: area,
-        rows: rows,
-        entries: entries,
+fn partition(at: &mut [Partition], field: u64, value: u64) {
+    let Some(place) = place_of(field, at.len()) else {
+        return;
     };
-    next
-}
-
-fn entry(e: Entry, word: u64, value: u64) -> Entry {
-    let mut f = e;
-    match word {
-        0 => {
-            f.epoch = value;
-        }
-        1 => {
-            f.end = value as usize;
-        }
-        _ => {
-            f.mark = value;
-        }
+    let q = &mut at[place];
+    match field {
+        0..=19 => q.area = value as usize,
+        20..=29 => q.rows = value as usize,
+        _ => q.entries = value as usize,
     }
-    f
 }
 
 // A word of the first or the second entry of the first area.
-fn entries(t: Table, field: u64, value: u64) -> Table {
-    let mut next = t;
+fn entry(at: &mut [Entry], field: u64, value: u64) {
     let word = field % 10;
-    if word < 3 {
-        let e = entry(next.at[0], word, value);
-        next.at[0] = e;
-        return next;
+    let place = if word < 3 { 0 } else { 1 };
+    if at.len() <= place {
+        return;
     }
-    let e = entry(next.at[1], word % 3, value);
-    next.at[1] = e;
-    next
+    let e = &mut at[place];
+    match word % 3 {
+        0 => e.epoch = value,
+        1 => e.end = value as usize,
+        _ => e.mark = value,
+    }
 }
 
 // The total of lot `place` (70).
-fn totals(state: State, field: u64, value: u64) -> State {
-    let mut n = state;
-    let place = (field % 10) as usize;
-    if PARTITIONS_MAX <= place {
-        return n;
+fn total(totals: &mut [u64], field: u64, value: u64) {
+    if let Some(place) = place_of(field, totals.len()) {
+        totals[place] = value;
     }
-    let mut ts = n.totals;
-    ts[place] = value;
-    n.totals = ts;
-    n
 }
 
 // One of the first ten rows of the first area (80).
@@ -231,62 +113,7 @@ pub(crate) fn row(rows: &mut [u64], field: u64, value: u64) {
     if field < 80 {
         return;
     }
-    let place = (field % 10) as usize;
-    if rows.len() <= place {
-        return;
-    }
-    rows[place] = value;
-}
-
-// A word of the books or of the entries; `row` overwrites the rows.
-pub(crate) fn poke(state: State, table: Table, field: u64, value: u64) -> Poked {
-    if 80 <= field {
-        return Poked {
-            state: state,
-            table: table,
-        };
-    }
-    if 70 <= field {
-        let s = totals(state, field, value);
-        return Poked {
-            state: s,
-            table: table,
-        };
-    }
-    if 60 <= field {
-        let t = entries(table, field, value);
-        return Poked {
-            state: state,
-            table: t,
-        };
-    }
-    let mut s = state;
-    if field == 6 {
-        let ps = partitions(s.partitions, field, value);
-        s.partitions = ps;
-        return Poked {
-            state: s,
-            table: table,
-        };
-    }
-    if field < 10 {
-        let m = manager(s, field, value);
-        return Poked {
-            state: m,
-            table: table,
-        };
-    }
-    if field < 40 {
-        let ps = partitions(s.partitions, field, value);
-        s.partitions = ps;
-        return Poked {
-            state: s,
-            table: table,
-        };
-    }
-    let m = manager(s, field, value);
-    Poked {
-        state: m,
-        table: table,
+    if let Some(place) = place_of(field, rows.len()) {
+        rows[place] = value;
     }
 }

@@ -4,7 +4,7 @@
 
 pub mod tick;
 
-ghost use Rattle.std.specs.Prelude.{◌≡◌, suc, min, ◌-◌, eqb};
+ghost use Rattle.std.specs.Prelude.{◌≡◌, suc, eqb};
 ghost use Rattle.rules.specs.WellFormed.{clock_ok};
 ghost use Rattle.epoch.specs.Epochs.{start_of};
 ghost use Rattle.epoch.specs.Ticks.{ticked};
@@ -18,69 +18,35 @@ pub struct Epoch {
     pub number: u64,
 }
 
-// What a starting epoch is taken for.
-#[derive(Clone, Copy)]
-pub enum Start {
-    At(Epoch),
-    OutOfRange,
-}
-
 impl Epoch {
     pub const FIRST: Epoch = Epoch { number: 1 };
 
     pub const LAST: Epoch = Epoch { number: LAST_EPOCH };
 
-    pub fn new(s: u64) -> Start
+    // None where no epoch has the number s.
+    pub fn new(s: u64) -> Option<Self>
         ensures { result ≡ start_of s }
     {
-        if s < Epoch::FIRST.number {
-            return Start::OutOfRange;
+        if s < Self::FIRST.number || Self::LAST.number < s {
+            return None;
         }
-        if Epoch::LAST.number < s {
-            return Start::OutOfRange;
-        }
-        Start::At(Self { number: s })
+        Some(Self { number: s })
     }
-}
-
-// The epoch before s; 0 is before all.
-pub fn predecessor(s: u64) -> u64
-    ensures { result ≡ s - 1 }
-{
-    if s == 0 { 0 } else { s - 1 }
 }
 
 // y is the epoch after x.
 pub fn follows(x: u64, y: u64) -> bool
     ensures { result ≡ eqb (suc x) y }
 {
-    if y <= x {
-        return false;
-    }
-    y - x == 1
-}
-
-// The lower of two.
-pub fn lower(a: u64, b: u64) -> u64
-    ensures { result ≡ min a b }
-{
-    if a < b { a } else { b }
+    x < y && y - x == 1
 }
 
 // 01 "Refusals that come from the state", *sound*: the clock.
+#[tactic(auto, unfolding(rules::specs::WellFormed::clock_ok))]
 pub fn clock_ok(c: Clock) -> bool
     ensures { result ≡ clock_ok c }
 {
-    if c.ec < Epoch::FIRST.number {
-        return false;
-    }
-    if Epoch::LAST.number + 1 < c.ec {
-        return false;
-    }
-    if c.ec <= c.lce {
-        return false;
-    }
-    c.lse <= c.lce
+    Epoch::FIRST.number <= c.ec && c.ec <= Epoch::LAST.number + 1 && c.lce < c.ec && c.lse <= c.lce
 }
 
 // What the clock hands out, and the clock after it.

@@ -1,9 +1,11 @@
 // Replies in words, for callers in C and Rust: 01's number of an answer and its values, with the books after the call.
 ghost use Rattle.std.specs.Prelude.{◌≡◌};
-ghost use Rattle.exports.specs.Words.{place_in, replied_of, purged_of, seen_of};
+ghost use Rattle.exports.specs.Words.{place_in, replied_at, replied_of, purged_of, seen_of};
+ghost use Rattle.reply.specs.Reply.{words_of};
+ghost use Rattle.rules.specs.Answers.{reply_of};
 
 use area::row_base;
-use reply::reply_of;
+use reply::ReplyWords;
 use rules::limits::PARTITIONS_MAX;
 use rules::{Answer, Kept, Partitions, State};
 
@@ -37,15 +39,17 @@ pub struct Place {
     pub count: usize,
 }
 
+const NOWHERE: Place = Place { from: 0, count: 0 };
+
 // Where the rows of partition p (01: lot) lie after a call of this number; nowhere if it was refused, or above 7.
 fn place_in(number: u64, partitions: Partitions, p: u64) -> Place
     ensures { result ≡ place_in number partitions p }
 {
     if number != 0 {
-        return Place { from: 0, count: 0 };
+        return NOWHERE;
     }
     if PARTITIONS_MAX as u64 <= p {
-        return Place { from: 0, count: 0 };
+        return NOWHERE;
     }
     let q = partitions.at[p as usize];
     Place {
@@ -54,23 +58,28 @@ fn place_in(number: u64, partitions: Partitions, p: u64) -> Place
     }
 }
 
+// The reply to a call, by its answer in words, with this part.
+#[inline(always)]
+fn with_part(k: Kept, reply: ReplyWords, part: Place) -> Replied
+    requires { reply ≡ words_of (reply_of k.answer) }
+    ensures { result ≡ replied_at k part }
+{
+    Replied {
+        state: k.state,
+        number: reply.number,
+        value: reply.values[0],
+        second: reply.values[1],
+        from: part.from,
+        count: part.count,
+    }
+}
+
 // The reply to a call that answers with no part.
 #[inline(always)]
 pub fn reply_to(k: Kept) -> Replied
     ensures { result ≡ replied_of k }
 {
-    let state = k.state;
-    let answer = k.answer;
-    let reply = reply_of(answer);
-    let values = reply.values;
-    Replied {
-        state,
-        number: reply.number,
-        value: values[0],
-        second: values[1],
-        from: 0,
-        count: 0,
-    }
+    with_part(k, ReplyWords::from(k.answer), NOWHERE)
 }
 
 // The reply to a purge of partition p, with the part in force: all rows of p, where it was accepted.
@@ -78,30 +87,19 @@ pub fn reply_to(k: Kept) -> Replied
 pub fn reply_to_purge(k: Kept, p: u64) -> Replied
     ensures { result ≡ purged_of k p }
 {
-    let state = k.state;
-    let answer = k.answer;
-    let reply = reply_of(answer);
-    let values = reply.values;
-    let place = place_in(reply.number, state.partitions, p);
-    Replied {
-        state,
-        number: reply.number,
-        value: values[0],
-        second: values[1],
-        from: place.from,
-        count: place.count,
-    }
+    let reply = ReplyWords::from(k.answer);
+    let part = place_in(reply.number, k.state.partitions, p);
+    with_part(k, reply, part)
 }
 
 // The reply to a scan or a save.
 pub fn reply_to_read(answer: Answer) -> Seen
     ensures { result ≡ seen_of answer }
 {
-    let reply = reply_of(answer);
-    let values = reply.values;
+    let reply = ReplyWords::from(answer);
     Seen {
         number: reply.number,
-        value: values[0],
-        second: values[1],
+        value: reply.values[0],
+        second: reply.values[1],
     }
 }

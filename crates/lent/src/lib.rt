@@ -21,6 +21,7 @@ pub fn read_entry(entries: &[Entry], i: usize) -> Entry
     if i < entries.len() {
         return entries[i];
     }
+    // written out: by the derived default loading a partition took 350 instructions more
     Entry {
         epoch: 0,
         end: 0,
@@ -28,14 +29,11 @@ pub fn read_entry(entries: &[Entry], i: usize) -> Entry
     }
 }
 
+#[tactic(auto, unfolding(crate::specs::Entries::filled0))]
 pub fn blank() -> [Entry; ENTRIES_LENT]
     ensures { result ≡ filled0 }
 {
-    [Entry {
-        epoch: 0,
-        end: 0,
-        mark: 0,
-    }; ENTRIES_LENT]
+    [Entry::default(); ENTRIES_LENT]
 }
 
 pub fn to_table(a: [Entry; ENTRIES_LENT]) -> Table

@@ -10,10 +10,7 @@ use rules::Answer;
 fn front(words: &[u64], n: usize) -> &[u64]
     ensures { result.now ≡ take n words.now }
 {
-    if n < words.len() {
-        return &words[..n];
-    }
-    words
+    &words[..n.min(words.len())]
 }
 
 // Rows of the new area after a rewrite, of the old one where the purge was skipped, else none.

@@ -1,9 +1,9 @@
 -- What append and clear write: one entry, and a batch of rows behind the partition's last. 01 "Lots", Append, Clear.
--- In order: words in range, nothing written, one entry placed, append, clear, a plan carried out.
+-- In order: words in range, why there is no room, nothing written, one entry placed, append, clear, a plan carried out.
 -- Laws: proofs/Laws/Append.antt (a plan carried out leaves rules' laid_in_place), proofs/Laws/Plan.antt.
 -- Assumes nothing.
-use Rattle.std.specs.Prelude.{Bool, true, false, not, ◌&&◌, ◌||◌, cond, List, ℕ, ◌+◌, ◌-◌, ◌*◌, get_or, set, ltb, leb}
-use Rattle.std.specs.Prelude.{eqb}
+use Rattle.std.specs.Prelude.{Bool, not, ◌&&◌, cond, List, ℕ, ◌+◌, ◌-◌, ◌*◌, get_or, set, ltb, leb}
+use Rattle.std.specs.Prelude.{eqb, Result, Ok, Err}
 use Rattle.rules.specs.Limits.{areas_max, rows_max, entries_max}
 use Rattle.rules.specs.Store.{Store, partition_at, with_partitions_in}
 use Rattle.rules.specs.declared.Entry.{Entry}
@@ -11,20 +11,23 @@ use Rattle.rules.specs.declared.Partition.{Partition}
 use Rattle.lent.specs.Entries.{none}
 use Rattle.partition.specs.Areas.{with_partition}
 use Rattle.partition.specs.Rows.{put_rows}
+use Rattle.rules.specs.declared.Refusal.{Refusal}
+use Rattle.rules.specs.declared.Refusal.TheVariants.{RowsFull, EntriesFull}
 use Rattle.partition.specs.declared.Full.{Full}
+use Rattle.partition.specs.declared.Full.TheVariants.{Rows, Entries}
 use Rattle.partition.specs.declared.Plan.{Plan}
 
 -- an area of the nine, at most 512 rows and 64 entries
 unfoldable pub in_range : Partition → Bool
 in_range q = ltb q.area areas_max && leb q.rows rows_max && leb q.entries entries_max
 
-abbrev pub full_if : Bool → Bool → Full
-full_if rows entries = record { rows = rows; entries = entries }
+abbrev pub refusal_of : Full → Refusal
+refusal_of Rows = RowsFull
+refusal_of Entries = EntriesFull
 
 -- nothing is written: index and row stand past the last
-abbrev pub stays : Full → Partition → Plan
-stays full q = record {
-  full = full;
+abbrev pub stays : Partition → Plan
+stays q = record {
   index = entries_max * areas_max;
   entry = none;
   row = rows_max * areas_max;
@@ -35,7 +38,6 @@ stays full q = record {
 -- the entry behind the first n, and the batch at `row`
 abbrev pub placed : ℕ → Partition → ℕ → Entry → Plan
 placed n q row e = record {
-  full = full_if false false;
   index = entries_max * q.area + n;
   entry = e;
   row = row;
@@ -54,28 +56,29 @@ abbrev pub last_of : List Entry → Partition → Entry
 last_of entries q = get_or entries (entries_max * q.area + (q.entries - 1)) none
 
 -- how many of the partition's entries stay as they are: all, or all but a last one that grows
-unfoldable pub kept_in : Entry → Partition → ℕ → ℕ
+abbrev pub kept_in : Entry → Partition → ℕ → ℕ
 kept_in last q i = cond (ltb 0 q.entries && grows i last) (q.entries - 1) q.entries
 
 -- k rows behind the last, with an entry behind the first n
-unfoldable pub append_at : ℕ → Partition → ℕ → ℕ → Plan
-append_at n q i k = let full = full_if (ltb (rows_max - q.rows) k) (leb entries_max n) in
-    cond (full.rows || full.entries) (stays full q)
-    (placed n q (rows_max * q.area + q.rows) (record { epoch = i; end = q.rows + k; mark = 0 }))
+unfoldable pub append_at : ℕ → Partition → ℕ → ℕ → Result Plan Full
+append_at n q i k =
+    cond (ltb (rows_max - q.rows) k) (Err Rows)
+    (cond (leb entries_max n) (Err Entries)
+    (Ok (placed n q (rows_max * q.area + q.rows) (record { epoch = i; end = q.rows + k; mark = 0 }))))
 
 -- words out of range are taken for a full partition; a batch of no rows adds nothing
-unfoldable pub append_plan : Entry → Partition → ℕ → ℕ → Plan
+unfoldable pub append_plan : Entry → Partition → ℕ → ℕ → Result Plan Full
 append_plan last q i k =
-    cond (not (in_range q)) (stays (full_if true true) q)
-    (cond (eqb k 0) (stays (full_if false false) q) (append_at (kept_in last q i) q i k))
+    cond (not (in_range q)) (Err Rows)
+    (cond (eqb k 0) (Ok (stays q)) (append_at (kept_in last q i) q i k))
 
 -- ---- clear: always one entry, its end the row count
 
-unfoldable pub clear_plan : Partition → ℕ → Plan
+unfoldable pub clear_plan : Partition → ℕ → Result Plan Full
 clear_plan q i =
-    cond (not (in_range q)) (stays (full_if true true) q)
-    (cond (leb entries_max q.entries) (stays (full_if false true) q)
-    (placed q.entries q (rows_max * areas_max) (record { epoch = i; end = q.rows; mark = 1 })))
+    cond (not (in_range q)) (Err Entries)
+    (cond (leb entries_max q.entries) (Err Entries)
+    (Ok (placed q.entries q (rows_max * areas_max) (record { epoch = i; end = q.rows; mark = 1 }))))
 
 -- ---- the store once a plan is carried out: the entry put, the batch copied, the partition's counts set
 

@@ -1,13 +1,14 @@
 // What append and clear write: one entry, and a batch of rows behind the partition's last. 01 "Lots", Append, Clear.
 ghost use Rattle.std.specs.Prelude.{◌≡◌, ◌≤◌, ◌<◌};
 ghost use Rattle.rules.specs.Limits.{areas_max, rows_max, entries_max};
-ghost use Rattle.partition.specs.Append.{in_range, grows, full_if, stays, placed, append_at, append_plan, clear_plan};
+ghost use Rattle.partition.specs.Append.{in_range, grows, stays, placed, append_at, append_plan, clear_plan};
 
 use crate::{Full, Plan};
 use rules::limits::{AREAS_MAX, ENTRIES_LENT, ENTRIES_MAX, ROWS_LENT, ROWS_MAX};
 use rules::{Entry, Partition};
 
 // An area of the nine, at most 512 rows and 64 entries.
+#[tactic(auto, unfolding(crate::specs::Append::in_range))]
 fn in_range(q: Partition) -> bool
     ensures { result ≡ in_range q }
 {
@@ -20,12 +21,11 @@ fn in_range(q: Partition) -> bool
     q.entries <= ENTRIES_MAX
 }
 
-// Nothing is written: there is no room for the rows or for an entry, or nothing to write.
-fn stay(q: Partition, rows: bool, entries: bool) -> Plan
-    ensures { result ≡ stays (full_if rows entries) q }
+// There is nothing to write.
+fn stay(q: Partition) -> Plan
+    ensures { result ≡ stays q }
 {
     Plan {
-        full: Full { rows, entries },
         index: ENTRIES_LENT,
         entry: Entry {
             epoch: 0,
@@ -46,10 +46,6 @@ fn place(n: usize, q: Partition, row: usize, entry: Entry) -> Plan
 {
     let area = q.area;
     Plan {
-        full: Full {
-            rows: false,
-            entries: false,
-        },
         index: ENTRIES_MAX * area + n,
         entry,
         row,
@@ -69,34 +65,36 @@ fn does_grow(last: Entry, i: u64) -> bool
 }
 
 // k rows of transaction i; the partition's first n entries stay as they are.
-fn append_at(n: usize, q: Partition, i: u64, k: usize) -> Plan
+#[tactic(auto, unfolding(crate::specs::Append::append_at))]
+fn append_at(n: usize, q: Partition, i: u64, k: usize) -> Result<Plan, Full>
     requires { (q.area < areas_max) × (q.rows ≤ rows_max) × (n ≤ entries_max) }
     ensures { result ≡ append_at n q i k }
 {
     if ROWS_MAX - q.rows < k {
-        return stay(q, true, ENTRIES_MAX <= n);
+        return Err(Full::Rows);
     }
     if ENTRIES_MAX <= n {
-        return stay(q, false, true);
+        return Err(Full::Entries);
     }
     let entry = Entry {
         epoch: i,
         end: q.rows + k,
         mark: 0,
     };
-    place(n, q, ROWS_MAX * q.area + q.rows, entry)
+    Ok(place(n, q, ROWS_MAX * q.area + q.rows, entry))
 }
 
 // What an append of k rows by transaction i writes, where `last` is the partition's last entry, if it has one. Words
 // out of range are taken for a full partition.
-pub fn append_plan(last: Entry, q: Partition, i: u64, k: usize) -> Plan
+#[tactic(auto, unfolding(crate::specs::Append::append_plan, crate::specs::Append::in_range))]
+pub fn append_plan(last: Entry, q: Partition, i: u64, k: usize) -> Result<Plan, Full>
     ensures { result ≡ append_plan last q i k }
 {
     if !in_range(q) {
-        return stay(q, true, true);
+        return Err(Full::Rows);
     }
     if k == 0 {
-        return stay(q, false, false);
+        return Ok(stay(q));
     }
     let n = q.entries;
     if n == 0 {
@@ -109,19 +107,20 @@ pub fn append_plan(last: Entry, q: Partition, i: u64, k: usize) -> Plan
 }
 
 // What a clearing by transaction i writes: always one entry.
-pub fn clear_plan(q: Partition, i: u64) -> Plan
+#[tactic(auto, unfolding(crate::specs::Append::clear_plan, crate::specs::Append::in_range))]
+pub fn clear_plan(q: Partition, i: u64) -> Result<Plan, Full>
     ensures { result ≡ clear_plan q i }
 {
     if !in_range(q) {
-        return stay(q, true, true);
+        return Err(Full::Entries);
     }
     if ENTRIES_MAX <= q.entries {
-        return stay(q, false, true);
+        return Err(Full::Entries);
     }
     let entry = Entry {
         epoch: i,
         end: q.rows,
         mark: 1,
     };
-    place(q.entries, q, ROWS_LENT, entry)
+    Ok(place(q.entries, q, ROWS_LENT, entry))
 }

@@ -18,6 +18,7 @@ pub fn with_partition(ps: Partitions, p: usize, q: Partition) -> Partitions
 
 // Partition p lies in the area that was spare, with so many rows and entries, and its old area is the spare: 01 "Lots",
 // Roll back, Purge. A place that there is not changes nothing.
+#[tactic(auto, unfolding(crate::specs::Areas::moved_to))]
 pub fn moved(ps: Partitions, p: usize, rows: usize, entries: usize) -> Partitions
     ensures { result ≡ moved_to p rows entries ps }
 {

@@ -2,7 +2,10 @@
 // What a call writes into the lent areas is one entry and a batch of rows; a plan says which and where.
 #![tactic(auto)]
 
-use rules::Entry;
+ghost use Rattle.std.specs.Prelude.{◌≡◌};
+ghost use Rattle.partition.specs.Append.{refusal_of};
+
+use rules::{Entry, Refusal};
 
 pub mod append;
 pub mod areas;
@@ -10,16 +13,26 @@ pub mod rows;
 
 // What there is no room for: the rows (01: 8), an entry that is needed (01: 9).
 #[derive(Clone, Copy)]
-pub struct Full {
-    pub rows: bool,
-    pub entries: bool,
+pub enum Full {
+    Rows,
+    Entries,
 }
 
-// What an append or a clear writes. Where it is full, or adds nothing, the entry and the row stand past the last, so
-// that nothing is written, and the counts stay.
+impl From<Full> for Refusal {
+    ghost from_gives = { λ full why. why ≡ refusal_of full };
+
+    fn from(full: Full) -> Refusal {
+        match full {
+            Full::Rows => Refusal::RowsFull,
+            Full::Entries => Refusal::EntriesFull,
+        }
+    }
+}
+
+// What an append or a clear writes. Where an append adds nothing, the entry and the row stand past the last, so that
+// nothing is written, and the counts stay.
 #[derive(Clone, Copy)]
 pub struct Plan {
-    pub full: Full,
     // the entry to put, and its index among the entries of all areas
     pub index: usize,
     pub entry: Entry,

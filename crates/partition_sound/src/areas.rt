@@ -29,8 +29,5 @@ pub fn areas_ok(ps: Partitions) -> bool
     ensures { result ≡ areas_ok ps }
 {
     let areas = areas_of(ps);
-    if all_below(&areas, AREAS_MAX as u64) {
-        return all_differ(&areas);
-    }
-    false
+    all_below(&areas, AREAS_MAX as u64) && all_differ(&areas)
 }

@@ -8,7 +8,6 @@ ghost use Rattle.partition_sound.specs.Asked.{raised, asked_of, asked_for, lengt
 ghost use Rattle.partition_sound.specs.Rest.{rest_found};
 
 use numbers::fill;
-use places::in_use;
 use rules::limits::{ENTRIES_LENT, ENTRIES_MAX, PARTITIONS_MAX, ROWS_LENT, ROWS_MAX, WRITERS_MAX};
 use rules::{Clock, Entry, Partition, Partitions, RwTxns};
 use totals::{Reach, clearing, shown};
@@ -82,28 +81,23 @@ struct Epochs {
 fn epochs_of(ts: RwTxns) -> Epochs
     ensures { result ≡ epochs_with (epochs_of ts) }
 {
-    let n = in_use(ts.count, WRITERS_MAX);
+    let count = ts.count.min(WRITERS_MAX);
     let mut at = [0u64; WRITERS_MAX];
-    let mut i: usize = 0;
-    while i < n {
+    for i in 0..count {
         at[i] = ts.at[i].epoch;
-        i += 1;
     }
-    Epochs { at: at, count: n }
+    Epochs { at, count }
 }
 
 // An epoch above LCE is then looked up only where one between LCE and EC has no record.
+#[tactic(auto, unfolding(crate::specs::Asked::raised))]
 fn raise(c: Clock, epochs: &[u64]) -> Clock
     ensures { result ≡ raised c epochs.now }
 {
     if !fill(epochs, c.lce, c.ec) {
         return c;
     }
-    Clock {
-        ec: c.ec,
-        lce: c.ec,
-        lse: c.lse,
-    }
+    Clock { lce: c.ec, ..c }
 }
 
 // At most 512 rows and 64 entries.
@@ -117,7 +111,8 @@ fn counts_ok(q: Partition) -> bool
     }
 }
 
-// What is asked of books with this clock, these records, these partitions and totals, where nothing lands.
+// What is asked of books with this clock, these records, these partitions and totals, where nothing lands. By parts:
+// the books lent whole were tried, and cost a copy of them a call (an append copied 76,832 bytes and not 32,800).
 pub fn ask(clock: Clock, ts: RwTxns, ps: Partitions, totals: [u64; PARTITIONS_MAX]) -> Asked
     ensures { result ≡ asked_of clock ts ps totals }
 {
@@ -136,25 +131,26 @@ pub fn ask_landing(
     ensures { result ≡ asked_for clock ts ps totals high gone }
 {
     let es = epochs_of(ts);
-    let at = es.at;
-    let n = es.count;
-    let c = raise(clock, &at[..n]);
+    let epochs = es.at;
+    let count = es.count;
+    let clock_raised = raise(clock, &epochs[..count]);
     Asked {
-        clock: c,
+        clock: clock_raised,
         lce: clock.lce,
-        epochs: at,
-        count: n,
+        epochs,
+        count,
         partitions: ps,
-        totals: totals,
+        totals,
         lands: Reach {
             over: clock.lce,
-            high: high,
-            gone: gone,
+            high,
+            gone,
         },
     }
 }
 
 // n entries and m rows are lent.
+#[tactic(auto, unfolding(crate::specs::Asked::lengths_are))]
 pub fn lengths_ok(n: usize, m: usize) -> bool
     ensures { result ≡ lengths_are n m }
 {
@@ -168,46 +164,42 @@ pub fn lengths_ok(n: usize, m: usize) -> bool
 pub fn rest_ok(entries: &[Entry], rows: &[u64], a: Asked) -> bool
     ensures { result ≡ rest_asked entries.now rows.now a }
 {
-    let r = rest_of(entries, rows, a);
-    rest::ok_of(r)
+    rest_of(entries, rows, a).ok
 }
 
 // *sound* but for the manager, the totals once what is asked for has landed, and which partitions are whole. One pass
 // over the entries in use of each partition, to which the records' epochs are lent; then, where the partition is well,
 // one over its entries and rows, which weighs it, and what lands (02 (iii)): of a whole partition over the last entry.
+#[tactic(auto, unfolding(crate::proofs::Laws::Rest::ok_up_to, crate::specs::Rest::landed_below))]
 pub fn rest_of(entries: &[Entry], rows: &[u64], a: Asked) -> Verdict
     ensures { result ≡ rest_found entries.now rows.now a }
 {
-    let n = entries.len();
-    let m = rows.len();
     let held = rest::held_of(a);
-    let places = rest::places_of(a);
-    let kept = rest::totals_of(a);
+    let places = a.partitions;
+    let kept = a.totals;
+    let epochs = a.epochs;
+    let lands = a.lands;
     let reach = rest::reach_of(a);
-    let lands = rest::lands_of(a);
     let start = rest::start();
     let none = clearing::no_top();
     let empty = shown::no_tally();
-    let mut ok = rest::begin(n, m, places);
+    let mut ok = rest::begin(entries.len(), rows.len(), places);
     let mut after = rest::before(a);
-    let mut p: usize = 0;
-    let epochs = rest::epochs_in(a);
-    while p < PARTITIONS_MAX {
+    for p in 0..PARTITIONS_MAX {
         let q = area::each_place(places, p);
         let from = totals::from_of(q);
         let to = totals::to_of(q);
         let last = pass::pass(entries, &epochs, held, start, from, to);
         let end = rest::weighed_to(q, last, from, to);
         let stop = rest::cleared_to(last, from, end);
-        let top = clearing::find(entries, rows, reach, none, from, stop);
+        let top = clearing::find(entries, reach, none, from, stop);
         let below = rest::landing_to(lands, from, stop);
-        let newest = clearing::find(entries, rows, lands, none, from, below);
+        let newest = clearing::find(entries, lands, none, from, below);
         let cuts = totals::cuts_of(q, reach, top, lands, newest);
         let first = rest::weighed_from(last, from, end);
         let t = shown::tally(entries, rows, cuts, empty, first, end);
         ok = rest::judged(rows, ok, kept, p, q, last, cuts, t);
         after = rest::landed_at(after, p, last, newest, t);
-        p += 1;
     }
     rest::found(ok, after)
 }

@@ -6,32 +6,22 @@ ghost use Rattle.partition_sound.specs.Asked.{fills};
 
 use epoch::follows;
 
-// x stands in xs.
-pub fn has(xs: &[u64], x: u64) -> bool
+// x stands in xs. The library's `contains` was tried and was slower.
+fn has(xs: &[u64], x: u64) -> bool
     ensures { result ≡ elem x xs.now }
 {
-    let mut i: usize = 0;
-    while i < xs.len() {
-        if x == xs[i] {
-            return true;
-        }
-        i += 1;
-    }
-    false
+    xs.iter().any(|y| x == *y)
 }
 
-// Where x stands among at most 32 numbers that rise, if it does: a guess, of which nothing is promised.
+// Where x stands among at most 32 numbers that rise, if it does: a guess, of which nothing is promised. The library's
+// `binary_search` was tried and was slower.
 fn likely(xs: &[u64], x: u64) -> usize {
     let mut at: usize = 0;
-    let mut half: usize = 16;
-    while 0 < half {
+    for half in [16, 8, 4, 2, 1] {
         let next = at + half;
-        if next < xs.len() {
-            if xs[next] <= x {
-                at = next;
-            }
+        if next < xs.len() && xs[next] <= x {
+            at = next;
         }
-        half = half / 2;
     }
     at
 }
@@ -41,10 +31,8 @@ pub fn look_up(xs: &[u64], x: u64) -> bool
     ensures { result ≡ elem x xs.now }
 {
     let i = likely(xs, x);
-    if i < xs.len() {
-        if x == xs[i] {
-            return true;
-        }
+    if i < xs.len() && x == xs[i] {
+        return true;
     }
     has(xs, x)
 }
@@ -53,13 +41,10 @@ pub fn look_up(xs: &[u64], x: u64) -> bool
 pub fn all_differ(xs: &[u64]) -> bool
     ensures { result ≡ distinct xs.now }
 {
-    let mut i: usize = 0;
-    while i < xs.len() {
-        let from = i + 1;
-        if has(&xs[from..], xs[i]) {
+    for i in 0..xs.len() {
+        if has(&xs[i + 1..], xs[i]) {
             return false;
         }
-        i = from;
     }
     true
 }
@@ -68,29 +53,20 @@ pub fn all_differ(xs: &[u64]) -> bool
 pub fn all_below(xs: &[u64], limit: u64) -> bool
     ensures { result ≡ all_below limit xs.now }
 {
-    let mut i: usize = 0;
-    while i < xs.len() {
-        if limit <= xs[i] {
-            return false;
-        }
-        i += 1;
-    }
-    true
+    xs.iter().all(|x| *x < limit)
 }
 
 // xs are the numbers between lo and hi.
+#[tactic(auto, unfolding(crate::specs::Asked::fills))]
 pub fn fill(xs: &[u64], lo: u64, hi: u64) -> bool
     ensures { result ≡ fills lo hi xs.now }
 {
     let mut last = lo;
-    let mut i: usize = 0;
-    while i < xs.len() {
-        let x = xs[i];
-        if !follows(last, x) {
+    for x in xs {
+        if !follows(last, *x) {
             return false;
         }
-        last = x;
-        i += 1;
+        last = *x;
     }
     follows(last, hi)
 }

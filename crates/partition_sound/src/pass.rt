@@ -7,34 +7,28 @@ ghost use Rattle.partition_sound.specs.Pass.{found_in, bad_of, followed, step_of
 use crate::numbers::look_up;
 use crate::{Held, Last};
 use lent::read_entry;
-use places::in_use;
 use rules::Entry;
 
 // j is an epoch up to LCE, or that of a record: the epochs of the records are lent.
+#[tactic(auto, unfolding(crate::specs::Pass::found_in))]
 fn is_found(epochs: &[u64], c: Held, j: u64) -> bool
     ensures { result ≡ found_in c.lce (take c.count epochs.now) j }
 {
     if j <= c.lce {
         return true;
     }
-    let n = in_use(c.count, epochs.len());
-    look_up(&epochs[..n], j)
+    look_up(&epochs[..c.count.min(epochs.len())], j)
 }
 
 fn bad(last: Last) -> Last
     ensures { result ≡ bad_of last }
 {
-    Last {
-        epoch: last.epoch,
-        end: last.end,
-        ok: false,
-        cleared: last.cleared,
-        above: last.above,
-    }
+    Last { ok: false, ..last }
 }
 
 // An entry whose epoch is well, and whether one so far lies above `low`. All tests but the search for a record stand
 // here and in the next function: in more of them they cost a nanosecond an entry.
+#[tactic(auto, unfolding(crate::specs::Pass::comes_after, crate::specs::Pass::told_of))]
 fn follow(last: Last, e: Entry, above: bool) -> Last
     ensures { result ≡ followed last e above }
 {
@@ -48,9 +42,8 @@ fn follow(last: Last, e: Entry, above: bool) -> Last
         return Last {
             epoch: e.epoch,
             end: e.end,
-            ok: last.ok,
-            cleared: last.cleared,
-            above: above,
+            above,
+            ..last
         };
     }
     if e.mark != 1 {
@@ -62,13 +55,14 @@ fn follow(last: Last, e: Entry, above: bool) -> Last
     Last {
         epoch: 0,
         end: e.end,
-        ok: last.ok,
         cleared: true,
-        above: above,
+        above,
+        ..last
     }
 }
 
 // One entry more.
+#[tactic(auto, unfolding(crate::specs::Pass::held_by))]
 fn step(epochs: &[u64], c: Held, last: Last, e: Entry) -> Last
     ensures { result ≡ step_of epochs.now c last e }
 {
@@ -92,12 +86,8 @@ fn step(epochs: &[u64], c: Held, last: Last, e: Entry) -> Last
 pub fn pass(entries: &[Entry], epochs: &[u64], c: Held, start: Last, from: usize, to: usize) -> Last
     ensures { result ≡ turned (step_of epochs.now c) start entries.now from (to - from) }
 {
-    let mut last = start;
-    let mut i = from;
-    while i < to {
-        let e = read_entry(entries, i);
-        last = step(epochs, c, last, e);
-        i += 1;
-    }
-    last
+    (from..to).fold(
+        start,
+        |last, i| step(epochs, c, last, read_entry(entries, i)),
+    )
 }

@@ -7,13 +7,14 @@ ghost use Rattle.partition_sound.specs.Rest.{landed_total, landed_at, found_of};
 
 use crate::areas::areas_ok;
 use crate::{Asked, Held, Landed, Last, Verdict, counts_ok, lengths_ok};
-use rules::limits::{PARTITIONS_MAX, WRITERS_MAX};
+use rules::limits::PARTITIONS_MAX;
 use rules::{Partition, Partitions};
 use totals::shown::closed;
 use totals::weigh::add;
 use totals::{Cuts, Reach, Tally, Top};
 
 // LCE, where it lies below EC and up to it no epoch needs a record; else no epoch at all.
+#[tactic(auto, unfolding(crate::specs::Rest::low_of))]
 fn low_of(a: Asked) -> u64
     ensures { result ≡ low_of a }
 {
@@ -29,19 +30,12 @@ fn low_of(a: Asked) -> u64
 pub fn held_of(a: Asked) -> Held
     ensures { result ≡ held_of a }
 {
-    let low = low_of(a);
     Held {
         ec: a.clock.ec,
         lce: a.clock.lce,
         count: a.count,
-        low: low,
+        low: low_of(a),
     }
-}
-
-pub fn epochs_in(a: Asked) -> [u64; WRITERS_MAX]
-    ensures { result ≡ a.epochs }
-{
-    a.epochs
 }
 
 // The epochs that a page at LCE sees.
@@ -55,35 +49,16 @@ pub fn reach_of(a: Asked) -> Reach
     }
 }
 
-pub fn lands_of(a: Asked) -> Reach
-    ensures { result ≡ a.lands }
-{
-    a.lands
-}
-
-pub fn totals_of(a: Asked) -> [u64; PARTITIONS_MAX]
-    ensures { result ≡ a.totals }
-{
-    a.totals
-}
-
 // No partition yet.
 pub fn before(a: Asked) -> Landed
     ensures { result ≡ before_of a }
 {
     let totals = a.totals;
-    let low = low_of(a);
     Landed {
-        totals: totals,
+        totals,
         whole: [false; PARTITIONS_MAX],
-        low: low,
+        low: low_of(a),
     }
-}
-
-pub fn places_of(a: Asked) -> Partitions
-    ensures { result ≡ a.partitions }
-{
-    a.partitions
 }
 
 // No entry yet.
@@ -110,6 +85,7 @@ pub fn begin(n: usize, m: usize, ps: Partitions) -> bool
 }
 
 // Up to where a partition is weighed: to the end, and nowhere where it is not well.
+#[tactic(auto, unfolding(crate::specs::Rest::weighed_to))]
 pub fn weighed_to(q: Partition, last: Last, from: usize, to: usize) -> usize
     ensures { result ≡ weighed_to q last from to }
 {
@@ -136,6 +112,7 @@ fn is_whole(last: Last) -> bool
 }
 
 // From where it is weighed: of a whole partition the last entry alone tells which rows are shown.
+#[tactic(auto, unfolding(crate::specs::Rest::weighed_from))]
 pub fn weighed_from(last: Last, from: usize, end: usize) -> usize
     ensures { result ≡ weighed_from last from end }
 {
@@ -149,6 +126,7 @@ pub fn weighed_from(last: Last, from: usize, end: usize) -> usize
 }
 
 // Up to where the greatest clearing is sought: nowhere where there is none.
+#[tactic(auto, unfolding(crate::specs::Rest::cleared_to))]
 pub fn cleared_to(last: Last, from: usize, end: usize) -> usize
     ensures { result ≡ cleared_to last from end }
 {
@@ -159,6 +137,7 @@ pub fn cleared_to(last: Last, from: usize, end: usize) -> usize
 }
 
 // Up to where the newest clearing is sought among what lands: nowhere where nothing does.
+#[tactic(auto, unfolding(crate::specs::Rest::landing_to))]
 pub fn landing_to(r: Reach, from: usize, stop: usize) -> usize
     ensures { result ≡ landing_to r from stop }
 {
@@ -169,6 +148,7 @@ pub fn landing_to(r: Reach, from: usize, stop: usize) -> usize
 }
 
 // Partition q is well, after those before it, and weighs its total.
+#[tactic(auto, unfolding(crate::specs::Rest::judged_of))]
 pub fn judged(
     rows: &[u64],
     ok: bool,
@@ -225,16 +205,13 @@ fn whole_at(whole: [bool; PARTITIONS_MAX], p: usize, last: Last) -> [bool; PARTI
 }
 
 // Partition p too.
+#[tactic(auto, unfolding(crate::specs::Rest::landed_at))]
 pub fn landed_at(after: Landed, p: usize, last: Last, newest: Top, t: Tally) -> Landed
     ensures { result ≡ landed_at after p last newest t }
 {
-    let totals = after.totals;
-    let whole = after.whole;
-    let landed = total_at(totals, p, newest, t);
-    let found = whole_at(whole, p, last);
     Landed {
-        totals: landed,
-        whole: found,
+        totals: total_at(after.totals, p, newest, t),
+        whole: whole_at(after.whole, p, last),
         low: after.low,
     }
 }
@@ -245,15 +222,9 @@ pub fn found(ok: bool, after: Landed) -> Verdict
     let totals = after.totals;
     let whole = after.whole;
     Verdict {
-        totals: totals,
-        whole: whole,
+        totals,
+        whole,
         low: after.low,
-        ok: ok,
+        ok,
     }
-}
-
-pub fn ok_of(r: Verdict) -> bool
-    ensures { result ≡ r.ok }
-{
-    r.ok
 }

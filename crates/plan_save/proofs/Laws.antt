@@ -1,7 +1,6 @@
 pub mod Joined
 pub mod Laid
 pub mod Planned
-pub mod Save
 pub mod Shown
 pub mod Words
 pub mod Written

@@ -5,16 +5,16 @@ ghost use Rattle.std.specs.Prelude.{◌≡◌, ◌*◌, ◌≤◌, length};
 ghost use Rattle.rules.specs.Limits.{partitions_max};
 ghost use Rattle.rules.specs.Calls.{within};
 ghost use Rattle.plan_save.specs.Runs.{runs_max, words_max, size_of, runs_in};
-ghost use Rattle.plan_save.specs.Save.{bases_of, sizes_of, refused_save, save_plan, put_to};
+ghost use Rattle.plan_save.specs.Save.{bases_of, sizes_of, save_plan, put_to};
 ghost use Rattle.plan_save.specs.Save.{runs_put, lots_put, save_written};
 
-use area::{place_of, row_base};
+use area::{partition_at, row_base};
 use checkpoint::HEADER_SIZE;
 use checkpoint::write::{put_header, put_rows};
 use partition_sound::Verdict;
 use rules::limits::{ENTRIES_MAX, PARTITIONS_MAX, ROWS_LENT};
-use rules::{Answer, Clock, Partitions, Refusal, State};
-use runs::{Runs, from_in, no_words, width_in};
+use rules::{Clock, Partitions, Refusal, State};
+use runs::{Runs, from_in, width_in};
 use txn::parts_sound;
 
 pub mod runs;
@@ -26,12 +26,10 @@ pub const RUNS_MAX: usize = ENTRIES_MAX / 2 + 1;
 // Of all partitions.
 pub const WORDS_MAX: usize = PARTITIONS_MAX * RUNS_MAX;
 
-// What a save answers, and what it writes: the header of this epoch and these counts, then the rows of the runs, of
-// which partition p's stand from row bases[p] on. size is how many bytes they are, 0 where it is refused and nothing is
-// written.
+// What a save writes: the header of this epoch and these counts, then the rows of the runs, of which partition p's
+// stand from row bases[p] on. size is how many bytes they are.
 #[derive(Clone, Copy)]
 pub struct Save {
-    pub answer: Answer,
     pub epoch: u64,
     pub counts: [usize; PARTITIONS_MAX],
     pub bases: [usize; PARTITIONS_MAX],
@@ -46,29 +44,11 @@ struct Sizes {
     rows: usize,
 }
 
-// Nothing is written.
-fn refused(why: Refusal) -> Save
-    ensures { result ≡ refused_save why }
-{
-    let none = no_words();
-    Save {
-        answer: Answer::Refused(why),
-        epoch: 0,
-        counts: [0; PARTITIONS_MAX],
-        bases: [0; PARTITIONS_MAX],
-        at: none,
-        size: 0,
-    }
-}
-
 // LSE ≤ e ≤ LCE; here 0 is epoch 0.
 fn in_range(c: Clock, e: u64) -> bool
     ensures { result ≡ within c.lse c.lce e }
 {
-    if e < c.lse {
-        return false;
-    }
-    e <= c.lce
+    c.lse <= e && e <= c.lce
 }
 
 // How many rows the runs of a partition have.
@@ -77,14 +57,12 @@ fn size_of(ws: &[u32]) -> usize
     ensures { (result ≡ size_of (runs_in ws.now)) × (result ≤ 65535 * runs_max) }
 {
     let mut n: usize = 0;
-    let mut i: usize = 0;
-    while i < ws.len() {
-        let k = width_in(ws[i]);
+    for w in ws {
+        let k = width_in(*w);
         if k == 0 {
-            return n;
+            break;
         }
         n += k;
-        i += 1;
     }
     n
 }
@@ -95,19 +73,13 @@ fn sizes_of(ws: &[u32]) -> Sizes
 {
     let mut counts = [0usize; PARTITIONS_MAX];
     let mut rows: usize = 0;
-    let mut p: usize = 0;
-    while p < PARTITIONS_MAX {
+    for p in 0..PARTITIONS_MAX {
         let from = RUNS_MAX * p;
-        let to = from + RUNS_MAX;
-        let n = size_of(&ws[from..to]);
+        let n = size_of(&ws[from..from + RUNS_MAX]);
         counts[p] = n;
         rows += n;
-        p += 1;
     }
-    Sizes {
-        counts: counts,
-        rows: rows,
-    }
+    Sizes { counts, rows }
 }
 
 // The rows that the partitions' areas begin at.
@@ -115,49 +87,44 @@ fn bases_of(ps: Partitions) -> [usize; PARTITIONS_MAX]
     ensures { result ≡ bases_of ps }
 {
     let mut bases = [0usize; PARTITIONS_MAX];
-    let mut p: usize = 0;
-    while p < PARTITIONS_MAX {
-        let q = place_of(ps, p);
-        bases[p] = row_base(q.area);
-        p += 1;
+    for p in 0..PARTITIONS_MAX {
+        bases[p] = row_base(partition_at(ps, p as u64).area);
     }
     bases
 }
 
 // A save at e, of these runs and with k bytes of output, by what the test of the lots found. Refusals, in this order:
 // 5, 4, 3.
-pub fn save_core(state: State, found: Verdict, t: Runs, k: usize, e: u64) -> Save
+pub fn save_core(state: State, found: Verdict, t: Runs, k: usize, e: u64) -> Result<Save, Refusal>
     ensures { result ≡ save_plan state found.ok t.at k e }
 {
-    let sound = parts_sound(
+    if !parts_sound(
         found.ok,
         state.clock,
         state.writers,
         &state.deps,
         state.readers,
-    );
-    if !sound {
-        return refused(Refusal::Unsound);
+    ) {
+        return Err(Refusal::Unsound);
     }
     if !in_range(state.clock, e) {
-        return refused(Refusal::OutOfRange);
+        return Err(Refusal::OutOfRange);
     }
     let sizes = sizes_of(&t.at);
     let size = HEADER_SIZE + 8 * sizes.rows;
     if k < size {
-        return refused(Refusal::ShortOutput);
+        return Err(Refusal::ShortOutput);
     }
     let counts = sizes.counts;
     let bases = bases_of(state.partitions);
     let at = t.at;
-    Save {
-        answer: Answer::Saved { bytes: size },
+    Ok(Save {
         epoch: e,
-        counts: counts,
-        bases: bases,
-        at: at,
-        size: size,
-    }
+        counts,
+        bases,
+        at,
+        size,
+    })
 }
 
 // The rows of a partition's runs to out[start..], where its rows stand from row `base` on, and where they end; nothing
@@ -171,16 +138,12 @@ fn put_runs(out: &mut [u8], start: usize, rows: &[u64], base: usize, ws: &[u32])
         return start;
     }
     let mut at = start;
-    let mut i: usize = 0;
-    while i < ws.len() {
-        let w = ws[i];
-        let k = width_in(w);
+    for w in ws {
+        let k = width_in(*w);
         if k == 0 {
-            return at;
+            break;
         }
-        let from = from_in(w);
-        at = put_rows(out, at, rows, base + from, k);
-        i += 1;
+        at = put_rows(out, at, rows, base + from_in(*w), k);
     }
     at
 }
@@ -192,30 +155,17 @@ fn put_lots(out: &mut [u8], start: usize, rows: &[u64], bases: [usize; PARTITION
         ≡ (lots_put bases ws.now rows.now (put_to start out.old) partitions_max).out }
 {
     let mut at = start;
-    let mut p: usize = 0;
-    while p < PARTITIONS_MAX {
+    for p in 0..PARTITIONS_MAX {
         let from = RUNS_MAX * p;
-        let to = from + RUNS_MAX;
-        at = put_runs(out, at, rows, bases[p], &ws[from..to]);
-        p += 1;
+        at = put_runs(out, at, rows, bases[p], &ws[from..from + RUNS_MAX]);
     }
 }
 
 // The bytes of the plan to the front of the output, which is as long as the plan asks.
+#[tactic(auto, unfolding(crate::specs::Save::save_written))]
 pub fn write_checkpoint(out: &mut [u8], rows: &[u64], w: Save)
     ensures { out.new ≡ save_written w rows.now out.old }
 {
-    if w.size == 0 {
-        return;
-    }
-    let counts = w.counts;
-    let bases = w.bases;
-    put_header(out, w.epoch, counts);
-    put_lots(out, HEADER_SIZE, rows, bases, &w.at);
-}
-
-pub fn save_done(w: Save) -> Answer
-    ensures { result ≡ w.answer }
-{
-    w.answer
+    put_header(out, w.epoch, w.counts);
+    put_lots(out, HEADER_SIZE, rows, w.bases, &w.at);
 }

@@ -7,7 +7,7 @@ ghost use Rattle.plan_save.specs.Runs.{no_words, first_of, next_of, pending_turn
 ghost use Rattle.plan_save.specs.Runs.{sought_from, runs_with, runs_of};
 
 use crate::{RUNS_MAX, WORDS_MAX};
-use area::place_of;
+use area::partition_at;
 use lent::read_entry;
 use partition_sound::Verdict;
 use rules::limits::PARTITIONS_MAX;
@@ -31,6 +31,7 @@ pub struct Pending {
     pub end: usize,
 }
 
+#[tactic(auto, unfolding(crate::specs::Runs::no_words))]
 pub(crate) fn no_words() -> [u32; WORDS_MAX]
     ensures { result ≡ no_words }
 {
@@ -49,62 +50,53 @@ fn page_at(e: u64) -> Reach
 }
 
 // Before the first entry of partition p.
+#[tactic(auto, unfolding(crate::specs::Runs::first_of))]
 fn first_of(p: usize) -> Pending
     ensures { result ≡ first_of p }
 {
-    let mut at: usize = 0;
-    if p < PARTITIONS_MAX {
-        at = RUNS_MAX * p;
-    }
     Pending {
-        at: at,
+        at: if p < PARTITIONS_MAX { RUNS_MAX * p } else { 0 },
         from: 0,
         end: 0,
     }
 }
 
 // Where the next run goes: behind the pending one, if that has rows.
+#[tactic(auto, unfolding(crate::specs::Runs::next_of))]
 fn next_of(s: Pending) -> usize
     ensures { result ≡ next_of s }
 {
-    if s.end <= s.from {
-        return s.at;
+    if s.from < s.end && s.at < WORDS_MAX {
+        s.at + 1
+    } else {
+        s.at
     }
-    if WORDS_MAX <= s.at {
-        return s.at;
-    }
-    s.at + 1
 }
 
 // One entry more: the pending run grows by its rows, or ends before them.
+#[tactic(auto, unfolding(crate::specs::Runs::pending_turn))]
 fn step(c: Cut, s: Pending, e: Entry) -> Pending
     ensures { result ≡ pending_turn c s e }
 {
     if is_shown(c, s.end, e.epoch) {
-        return Pending {
-            at: s.at,
-            from: s.from,
-            end: e.end,
-        };
+        return Pending { end: e.end, ..s };
     }
-    let n = next_of(s);
     Pending {
-        at: n,
+        at: next_of(s),
         from: e.end,
         end: e.end,
     }
 }
 
 // Where the pending run goes; the first place where there is none such.
+#[tactic(auto, unfolding(crate::specs::Runs::place_in))]
 fn place_in(s: Pending) -> usize
     ensures { result ≡ place_in s }
 {
-    if s.at < WORDS_MAX {
-        return s.at;
-    }
-    0
+    if s.at < WORDS_MAX { s.at } else { 0 }
 }
 
+#[tactic(auto, unfolding(crate::specs::Runs::word_of))]
 fn word_of(s: Pending) -> u32
     ensures { result ≡ word_of s }
 {
@@ -132,24 +124,17 @@ pub(crate) fn width_in(w: u32) -> usize
 
 // From where on the entries of partition p, which lies at q, are gone over for a page at e: by what was found, the last
 // alone tells where all rows are shown.
+#[tactic(auto, unfolding(crate::specs::Runs::sought_from))]
 fn sought_from(q: Partition, found: Verdict, p: usize, e: u64) -> usize
     ensures { result ≡ sought_from q found p e }
 {
     let from = from_of(q);
     let to = to_of(q);
-    if e < found.low {
-        return from;
+    if found.low <= e && p < PARTITIONS_MAX && found.whole[p] && from < to {
+        to - 1
+    } else {
+        from
     }
-    if PARTITIONS_MAX <= p {
-        return from;
-    }
-    if !found.whole[p] {
-        return from;
-    }
-    if to <= from {
-        return from;
-    }
-    to - 1
 }
 
 fn to_runs(at: [u32; WORDS_MAX]) -> Runs
@@ -165,25 +150,19 @@ pub fn runs_of(entries: &[Entry], rows: &[u64], ps: Partitions, found: Verdict, 
 {
     let reach = page_at(e);
     let none = no_top();
-    let mut p: usize = 0;
     let mut a = no_words();
-    while p < PARTITIONS_MAX {
-        let q = place_of(ps, p);
+    for p in 0..PARTITIONS_MAX {
+        let q = partition_at(ps, p as u64);
         let from = sought_from(q, found, p, e);
         let to = to_of(q);
-        let top = find(entries, rows, reach, none, from, to);
+        let top = find(entries, reach, none, from, to);
         let cut = cut_of(reach, top, 0);
         let mut s = first_of(p);
-        let mut i = from;
-        while i < to {
+        for i in from..to {
             let x = read_entry(entries, i);
             s = step(cut, s, x);
-            let k = place_in(s);
-            let w = word_of(s);
-            a[k] = w;
-            i += 1;
+            a[place_in(s)] = word_of(s);
         }
-        p += 1;
     }
     to_runs(a)
 }

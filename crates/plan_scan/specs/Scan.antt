@@ -1,20 +1,22 @@
 -- What a scan decides by value. 01 "Who sees a row".
--- In order: a refusal, a scan of a partition, the two readers, the bytes written. Laws: proofs/Laws/Scan.antt, and
+-- In order: a scan of a partition, the view and the deps of a reader, a reader's scan, the bytes written. Laws:
 -- store/proofs/Laws/Scan.antt.
 -- Assumes nothing.
 use Rattle.std.specs.Prelude.{Bool, ◌&&◌, cond, List, [], ◌++◌, ℕ, ◌/◌, length, take, drop, replicate, ltb, leb}
-use Rattle.rules.specs.Manager.{has_open, deps_at, has_reader, epoch_at, manager_in}
+use Rattle.std.specs.Prelude.{Result, Ok, Err}
+use Rattle.rules.specs.Manager.{Manager, deps_at, epoch_at, manager_in}
 use Rattle.rules.specs.Limits.{rows_max}
 use Rattle.rules.specs.Bitmap.{bytes_for}
+use Rattle.rules.specs.Calls.{is_reader}
 use Rattle.rules.specs.WellFormed.{manager_ok}
-use Rattle.rules.specs.declared.Answer.TheVariants.{Scanned, Refused}
 use Rattle.rules.specs.declared.Refusal.{Refusal}
 use Rattle.rules.specs.declared.Refusal.TheVariants.{NotOpen, ShortOutput}
-use Rattle.rules.specs.Manager.{Manager}
+use Rattle.rules.specs.declared.Reader.{Reader}
+use Rattle.rules.specs.declared.Reader.TheVariants.{Rw, Ro}
 use Rattle.rules.specs.declared.Partition.{Partition}
 use Rattle.rules.specs.declared.State.{State}
 use Rattle.visible.specs.declared.View.{View}
-use Rattle.visible.specs.View.{page_view}
+use Rattle.visible.specs.declared.View.TheVariants.{Rw as rw_view, Ro as ro_view}
 use Rattle.visible.specs.Scan.{scanned, bitmap_scanned}
 use Rattle.area.specs.declared.Area.{Area}
 use Rattle.admit.specs.Admit.{admitted, by_admission}
@@ -28,36 +30,31 @@ bitmap_max = rows_max / 8
 abbrev pub no_bits : List ℕ
 no_bits = replicate bitmap_max 0
 
-abbrev pub refused_look : Refusal → Look
-refused_look why = record { answer = Refused why; bits = no_bits; count = 0 }
-
 -- the reader of view v and of these deps, with the entries of area a and k bytes lent
-unfoldable pub look_at : Area → Partition → View → List ℕ → ℕ → Look
+unfoldable pub look_at : Area → Partition → View → List ℕ → ℕ → Result Look Refusal
 look_at a q v deps k =
-    cond (ltb k (bytes_for q.rows)) (refused_look ShortOutput)
-    (record {
-      answer = Scanned q.rows (scanned v deps a q.rows no_bits).ones;
+    cond (ltb k (bytes_for q.rows)) (Err ShortOutput)
+    (Ok (record {
+      rows = q.rows;
+      ones = scanned v deps a q.rows no_bits;
       bits = bitmap_scanned v deps a q.rows no_bits;
       count = bytes_for q.rows;
-    })
+    }))
 
-abbrev pub rw_view : ℕ → View
-rw_view i = record { epoch = i; rw = 1 }
+abbrev pub view_of : Reader → Manager → View
+view_of (Rw i) m = rw_view i
+view_of (Ro t) m = ro_view (epoch_at t m)
 
-abbrev pub ro_view : ℕ → Manager → View
-ro_view i m = page_view (epoch_at i m)
+-- none are lent for a read-only transaction
+abbrev pub deps_of : Reader → Manager → List ℕ
+deps_of (Rw i) m = deps_at i m
+deps_of (Ro t) m = []
 
--- 01's order: 5, 1, 2, 3; is_open says whether the reader is, and a has the partition's entries
-abbrev pub look_by : Bool → View → List ℕ → State → Bool → Area → ℕ → ℕ → Look
-look_by is_open v deps s rest a k p =
-    by_admission refused_look (λ q. cond is_open (look_at a q v deps k) (refused_look NotOpen))
-    (admitted (rest && manager_ok (manager_in s)) s.partitions p)
-
-unfoldable pub rw_look : State → Bool → Area → ℕ → ℕ → ℕ → Look
-rw_look s rest a k i p = look_by (has_open i (manager_in s)) (rw_view i) (deps_at i (manager_in s)) s rest a k p
-
-unfoldable pub ro_look : State → Bool → Area → ℕ → ℕ → ℕ → Look
-ro_look s rest a k i p = look_by (has_reader i (manager_in s)) (ro_view i (manager_in s)) [] s rest a k p
+-- 01's order: 5, 1, 2, 3; a has the partition's entries
+unfoldable pub scan_plan : Reader → State → Bool → Area → ℕ → ℕ → Result Look Refusal
+scan_plan r s rest a k p = let m = manager_in s in
+    by_admission Err (λ q. cond (is_reader r m) (look_at a q (view_of r m) (deps_of r m) k) (Err NotOpen))
+    (admitted (rest && manager_ok m) s.partitions p)
 
 -- the first n of the bytes over those lent, where so many are
 unfoldable pub copied : ℕ → List ℕ → List ℕ → List ℕ

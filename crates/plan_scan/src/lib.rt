@@ -2,120 +2,88 @@
 #![tactic(auto)]
 
 ghost use Rattle.std.specs.Prelude.{◌≡◌};
-ghost use Rattle.plan_scan.specs.Scan.{refused_look, look_at, rw_look, ro_look, copied};
+ghost use Rattle.plan_scan.specs.Scan.{look_at, scan_plan, copied};
 
-use admit::{Admitted, admit};
+use admit::admit;
 use area::Area;
 use rules::limits::ROWS_MAX;
-use rules::{Answer, Partition, Refusal, State};
+use rules::{Partition, Reader, Refusal, State};
 use txn::parts_sound;
-use txn_find::{Found, find_reader, find_writer, row_of};
+use txn_find::{find_reader, find_writer, row_of};
 use visible::View;
 
 // The bytes that a partition's rows need at most.
 const BITMAP_MAX: usize = ROWS_MAX / 8;
 
-// What a scan answers, and the first count bytes that it writes.
+// How many rows a partition has, how many of them are shown, and the first count bytes, which a scan writes.
 #[derive(Clone, Copy)]
 pub struct Look {
-    pub answer: Answer,
+    pub rows: usize,
+    pub ones: usize,
     pub bits: [u8; BITMAP_MAX],
     pub count: usize,
 }
 
-// Nothing is written.
-fn refused(why: Refusal) -> Look
-    ensures { result ≡ refused_look why }
-{
-    Look {
-        answer: Answer::Refused(why),
-        bits: [0; BITMAP_MAX],
-        count: 0,
-    }
-}
-
 // The reader of view v and of these deps scans partition q, whose entries are a, and k bytes are lent.
-fn scan_partition(a: Area, q: Partition, v: View, deps: &[u64], k: usize) -> Look
+#[tactic(auto, unfolding(crate::specs::Scan::look_at))]
+fn scan_partition(a: Area, q: Partition, v: View, deps: &[u64], k: usize) -> Result<Look, Refusal>
     ensures { result ≡ look_at a q v deps.now k }
 {
     let rows = q.rows;
     let count = bitmap::bytes_for(rows);
     if k < count {
-        return refused(Refusal::ShortOutput);
+        return Err(Refusal::ShortOutput);
     }
     let mut bits = [0u8; BITMAP_MAX];
-    let done = visible::scan(v, deps, a, rows, &mut bits);
-    let answer = Answer::Scanned {
-        rows: rows,
-        ones: done.ones,
-    };
-    Look {
-        answer: answer,
-        bits: bits,
-        count: count,
-    }
+    let ones = visible::scan(v, deps, a, rows, &mut bits);
+    Ok(Look {
+        rows,
+        ones,
+        bits,
+        count,
+    })
 }
 
-// Transaction i scans partition p, whose entries are a; rest says whether the rest of the store is sound.
-pub fn rw_core(state: State, rest: bool, a: Area, k: usize, i: u64, p: u64) -> Look
-    ensures { result ≡ rw_look state rest a k i p }
+// A reader scans partition p, whose entries are a; rest says whether the rest of the store is sound. Refusals, in this
+// order: 5, 1, 2, 3.
+pub fn scan_core(
+    state: State,
+    rest: bool,
+    a: Area,
+    k: usize,
+    reader: Reader,
+    p: u64,
+) -> Result<Look, Refusal>
+    ensures { result ≡ scan_plan reader state rest a k p }
 {
     let sound = parts_sound(rest, state.clock, state.writers, &state.deps, state.readers);
-    let admitted = admit(sound, state.partitions, p);
-    match admitted {
-        Admitted::Not(why) => refused(why),
-        Admitted::To(q) => {
+    let q = admit(sound, state.partitions, p)?;
+    match reader {
+        Reader::Rw(i) => {
             let writers = state.writers;
-            let Found::At(j) = find_writer(writers, i) else {
-                return refused(Refusal::NotOpen);
+            let Some(j) = find_writer(writers, i) else {
+                return Err(Refusal::NotOpen);
             };
             let n = writers.at[j].deps;
-            let v = View { epoch: i, rw: 1 };
-            scan_partition(a, q, v, row_of(&state.deps, j, n), k)
+            scan_partition(a, q, View::Rw(i), row_of(&state.deps, j, n), k)
         }
-    }
-}
-
-// The read-only transaction (01: page) of ticket i scans partition p, whose entries are a.
-pub fn ro_core(state: State, rest: bool, a: Area, k: usize, i: u64, p: u64) -> Look
-    ensures { result ≡ ro_look state rest a k i p }
-{
-    let sound = parts_sound(rest, state.clock, state.writers, &state.deps, state.readers);
-    let admitted = admit(sound, state.partitions, p);
-    match admitted {
-        Admitted::Not(why) => refused(why),
-        Admitted::To(q) => {
+        Reader::Ro(t) => {
             let readers = state.readers;
-            let Found::At(j) = find_reader(readers, i) else {
-                return refused(Refusal::NotOpen);
+            let Some(j) = find_reader(readers, t) else {
+                return Err(Refusal::NotOpen);
             };
-            let v = visible::page(readers.at[j].epoch);
-            scan_partition(a, q, v, row_of(&state.deps, 0, 0), k)
+            scan_partition(a, q, View::Ro(readers.at[j].epoch), &[], k)
         }
     }
 }
 
 // The first count bytes, where there are so many and so many are lent.
+#[tactic(auto, unfolding(crate::specs::Scan::copied))]
 pub fn write_bits(bitmap: &mut [u8], w: Look)
     ensures { bitmap.new ≡ copied w.count w.bits bitmap.old }
 {
     let n = w.count;
-    if BITMAP_MAX < n {
-        return;
+    if n <= BITMAP_MAX && n <= bitmap.len() {
+        bitmap[..n].copy_from_slice(&w.bits[..n]);
     }
-    if bitmap.len() < n {
-        return;
-    }
-    let bits = w.bits;
-    let mut i: usize = 0;
-    while i < n {
-        bitmap[i] = bits[i];
-        i += 1;
-    }
-}
-
-pub fn look_done(w: Look) -> Answer
-    ensures { result ≡ w.answer }
-{
-    w.answer
 }

@@ -1,41 +1,23 @@
 -- Recovery decided by value. 02 (v).
--- In order: nothing written, what a header gives, recovery; what is written where: entries, rows, books. Laws:
+-- In order: what a header gives, recovery; what is written: entries, rows, books. Laws:
 -- proofs/Laws/Restore.antt.
 -- Assumes nothing.
-use Rattle.std.specs.Prelude.{◌||◌, cond, List, map, ℕ, zero, suc, ◌+◌, ◌*◌, ◌≤◌, get_or, take, replicate, leb, eqb}
+use Rattle.std.specs.Prelude.{cond, List, map, Result, Ok, Err, ℕ, zero, suc, ◌+◌, ◌*◌, ◌≤◌, get_or, set, take, eqb}
 use Rattle.rules.specs.Limits.{last_epoch, partitions_max, rows_max, entries_max}
 use Rattle.rules.specs.Checkpoint.{body_size}
 use Rattle.rules.specs.Store.{partition_numbers, state_of}
 use Rattle.rules.specs.Begin.{created_manager}
-use Rattle.rules.specs.declared.Answer.TheVariants.{Recovered, Refused}
 use Rattle.rules.specs.declared.Refusal.{Refusal}
-use Rattle.rules.specs.declared.Refusal.TheVariants.{Unsound, Corrupt}
+use Rattle.rules.specs.declared.Refusal.TheVariants.{Unsound}
 use Rattle.rules.specs.declared.Entry.{Entry}
 use Rattle.rules.specs.declared.Partition.{Partition}
 use Rattle.rules.specs.declared.Partitions.{Partitions}
 use Rattle.rules.specs.declared.State.{State}
-use Rattle.rules.specs.declared.Kept.{Kept}
 use Rattle.partition_sound.specs.Asked.{lengths_are}
 use Rattle.checkpoint.specs.Header.{header_in, end_of}
 use Rattle.checkpoint.specs.Rows.{rows_read, weight_read}
 use Rattle.checkpoint.specs.declared.Header.{Header}
 use Rattle.recovery.specs.declared.Restored.{Restored}
-
--- 0 for each partition (01: lot)
-abbrev zeros : List ℕ
-zeros = replicate partitions_max 0
-
--- of n entries none is written, and no row
-abbrev pub refused_restore : ℕ → Refusal → Restored
-refused_restore n why = record {
-  answer = Refused why;
-  epoch = 0;
-  next = 0;
-  counts = zeros;
-  bodies = zeros;
-  totals = zeros;
-  past = n;
-}
 
 -- ---- what a header gives
 
@@ -55,31 +37,34 @@ bodies_for h = map (body_of h) partition_numbers
 abbrev pub weights_for : List ℕ → List ℕ → List ℕ → List ℕ
 weights_for file counts bodies = map (λ p. weight_read (get_or bodies p 0) (get_or counts p 0) file) partition_numbers
 
-abbrev pub restored_from : List ℕ → ℕ → Header → Restored
-restored_from file n h = record {
-  answer = Recovered;
+abbrev pub restored_from : List ℕ → Header → Restored
+restored_from file h = record {
   epoch = h.epoch;
   next = h.epoch + 1;
   counts = h.counts;
   bodies = bodies_for h;
   totals = weights_for file h.counts (bodies_for h);
-  past = n;
 }
 
+abbrev pub restored_in : List ℕ → Result Header Refusal → Result Restored Refusal
+restored_in file (Ok h) = Ok (restored_from file h)
+restored_in file (Err why) = Err why
+
 -- n entries and m rows are lent; 02's order: 5, 11
-unfoldable pub restored_by : List ℕ → ℕ → ℕ → Restored
-restored_by file n m =
-    let f = header_in last_epoch file in
-    cond (lengths_are n m) (cond f.corrupt (refused_restore n Corrupt) (restored_from file n f.header))
-    (refused_restore n Unsound)
+unfoldable pub restored_by : List ℕ → ℕ → ℕ → Result Restored Refusal
+restored_by file n m = cond (lengths_are n m) (restored_in file (header_in last_epoch file)) (Err Unsound)
 
--- ---- the entries that are written, and where: one for each partition with rows, and past the end for another
+-- ---- the entries, of the partitions below n: one for each that has rows, the first of its area
 
-abbrev pub new_of : Restored → List Entry
-new_of w = map (λ p. record { epoch = w.epoch; end = get_or w.counts p 0; mark = 0 }) partition_numbers
+abbrev pub entry_of : Restored → ℕ → Entry
+entry_of w p = record { epoch = w.epoch; end = get_or w.counts p 0; mark = 0 }
 
-unfoldable pub place_of : Restored → ℕ → ℕ
-place_of w p = cond (leb partitions_max p || eqb (get_or w.counts p 0) 0) w.past (entries_max * p)
+abbrev pub entry_put : Restored → ℕ → List Entry → List Entry
+entry_put w p es = cond (eqb (get_or w.counts p 0) 0) es (set es (entries_max * p) (entry_of w p))
+
+unfoldable pub entries_restored : Restored → ℕ → List Entry → List Entry
+entries_restored w zero es = es
+entries_restored w (suc n) es = entry_put w n (entries_restored w n es)
 
 -- ---- the rows, of the partitions below n
 
@@ -99,9 +84,6 @@ partition_for counts p = let n = get_or counts p 0 in record { area = p; rows = 
 abbrev pub partitions_for : List ℕ → Partitions
 partitions_for counts = record { at = map (partition_for counts) partition_numbers; spare = partitions_max }
 
--- made new at `next`; as they were where it is 0
-abbrev pub done_restore : State → Restored → Kept
-done_restore s w = record {
-  state = cond (eqb w.next 0) s (state_of (created_manager w.next) (partitions_for w.counts) w.totals);
-  answer = w.answer;
-}
+-- made new at `next`
+abbrev pub books_restored : Restored → State
+books_restored w = state_of (created_manager w.next) (partitions_for w.counts) w.totals

@@ -23,7 +23,7 @@ use Rattle.laws.proofs.Laws.Sound.{rows-room}
 use Rattle.lent.specs.Entries.{filled0}
 use Rattle.session_text.specs.Grammar.{parsed}
 use Rattle.session_text.specs.Print.{line_of, printed}
-use Rattle.session_text.specs.declared.Parsed.TheVariants.{Call as Is}
+use Rattle.std.specs.Prelude.{Some}
 use Rattle.store.specs.Kept.{store_of}
 use Rattle.session_line.specs.Session.{bits, calls_of, after_lines, answer_to}
 use Rattle.replay.specs.Start.{started}
@@ -52,7 +52,9 @@ module _ (rows : List ℕ) (size : length rows ≡ rows_max * areas_max) (lines 
       rw (lines-run lines (started rows).store) (history-shows st (at_epoch 1) (start-accepted rows size) calls r p bits
       h (bits-enough (partition_at p end).rows room))
 
-  pub session-shows : (line : List ℕ) (r : Reader) (p n : ℕ) → parsed line ≡ Is (Scan r p) n → p < partitions_max
+  pub session-shows : (line : List ℕ) (r : Reader) (p n : ℕ)
+      → parsed line ≡ Some (record { command = Scan r p; rows = n })
+      → p < partitions_max
       → is_open_in r ledger_in ≡ true → answer_to line after ≡ line_of 83 0 (shown_by r p ledger_in)
   unfolding answer_to printed
   session-shows line r p n is h o = let agrees = session_agrees r p h in

@@ -1,4 +1,3 @@
 pub mod Lines
 pub mod Chunks
 pub mod Start
-pub mod Replayed

@@ -3,17 +3,13 @@ ghost use Rattle.std.specs.Prelude.{◌≡◌, length};
 ghost use Rattle.lists.specs.Lists.{over};
 ghost use Rattle.store.specs.Kept.{store_of};
 ghost use Rattle.session_line.specs.Session.{after_lines, answers_to};
-ghost use Rattle.replay.specs.Replayed.{replayed_of};
 ghost use Rattle.replay.specs.Lines.{replayed, bytes_of, held_lines};
 
-use dispatch::{dispatch, entries_in};
+use dispatch::dispatch;
 use lent::Table;
-use rules::limits::ENTRIES_LENT;
-use rules::{Entry, State};
-use session_line::turn::{
-    Cursor, answer_line, batch_of, blank_bits, command_of, has_line, read_line, room_for, seek,
-    state_of,
-};
+use rules::State;
+use session_line::limits::BITMAP_MAX;
+use session_line::turn::{answer_line, batch_of, command_of, read_line, room_for, seek};
 
 // The store after the lines, how many bytes of input they were, and how many bytes answer them.
 #[derive(Clone, Copy)]
@@ -22,18 +18,6 @@ pub struct Replayed {
     pub table: Table,
     pub used: usize,
     pub written: usize,
-}
-
-fn replayed_of(state: State, entries: [Entry; ENTRIES_LENT], at: Cursor) -> Replayed
-    ensures { result ≡ replayed_of state entries at }
-{
-    let table = Table { at: entries };
-    Replayed {
-        state,
-        table,
-        used: at.used,
-        written: at.written,
-    }
 }
 
 // The whole lines at the front of `input`, each answered while 16,384 bytes of `out` are left; the answers stand one
@@ -65,16 +49,21 @@ pub fn replay(
     let room = room_for(numbers.len(), out.len());
     let mut at = seek(input, room, 0, 0);
     let mut books = state;
-    let mut entries = entries_in(table);
-    while has_line(at) {
+    let mut entries = table.at;
+    // The cursor counts no index: each turn finds the next line anew.
+    while at.more {
         let parsed = read_line(input, numbers, at);
-        let mut bitmap = blank_bits();
+        let mut bitmap = [0u8; BITMAP_MAX];
         let command = command_of(parsed);
         let batch = batch_of(numbers, parsed);
         let kept = dispatch(books, &mut entries, rows, batch, &mut bitmap, command);
-        let next = answer_line(input, rows, numbers, out, bitmap, parsed, kept, at);
-        books = state_of(kept);
-        at = next;
+        at = answer_line(input, rows, numbers, out, bitmap, parsed, kept, at);
+        books = kept.state;
     }
-    replayed_of(books, entries, at)
+    Replayed {
+        state: books,
+        table: Table { at: entries },
+        used: at.used,
+        written: at.written,
+    }
 }

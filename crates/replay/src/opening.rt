@@ -12,16 +12,12 @@ pub fn start(rows: &mut [u64]) -> Turned
     ensures store { store_of result.state rows.new result.table.at
         ≡ (started rows.old).store }
 {
-    let state = store::new_books(1);
-    let table = lent::to_table(lent::blank());
-    let batch = [0u64; 0];
-    let mut bitmap = [0u8; 0];
     turn(
-        state,
-        table,
+        store::new_books(1),
+        lent::to_table(lent::blank()),
         rows,
-        &batch,
-        &mut bitmap,
+        &[],
+        &mut [],
         Command::Create { start: 1 },
     )
 }

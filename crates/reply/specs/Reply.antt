@@ -1,6 +1,6 @@
 -- A reply's number and values as words. Definition of a reply: rules' specs/Answers.antt.
 -- Assumes nothing.
-use Rattle.std.specs.Prelude.{[], ◌∷◌, ℕ, length}
+use Rattle.std.specs.Prelude.{List, ℕ, length}
 use Rattle.lists.specs.Lists.{pad}
 use Rattle.rules.specs.Answers.{Reply, values_max}
 use Rattle.reply.specs.declared.ReplyWords.{ReplyWords}
@@ -10,5 +10,5 @@ abbrev pub words_of : Reply → ReplyWords
 words_of r = record { number = r.number; values = pad values_max 0 r.values; count = length r.values }
 
 -- accepted, with n of two words
-abbrev pub accepted : ℕ → ℕ → ℕ → ReplyWords
-accepted v w n = record { number = 0; values = v ∷ w ∷ []; count = n }
+abbrev pub accepted : List ℕ → ℕ → ReplyWords
+accepted vs n = record { number = 0; values = vs; count = n }

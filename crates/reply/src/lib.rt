@@ -36,57 +36,40 @@ fn refusal_number(r: Refusal) -> u64
     }
 }
 
-fn none() -> ReplyWords
-    ensures { result ≡ accepted 0 0 0 }
+// Accepted, with the first `count` of the values.
+fn said(values: [u64; VALUES_MAX], count: usize) -> ReplyWords
+    ensures { result ≡ accepted values count }
 {
     ReplyWords {
         number: 0,
-        values: [0, 0],
-        count: 0,
+        values,
+        count,
     }
 }
 
-fn one(value: u64) -> ReplyWords
-    ensures { result ≡ accepted value 0 1 }
-{
-    ReplyWords {
-        number: 0,
-        values: [value, 0],
-        count: 1,
-    }
-}
+impl From<Answer> for ReplyWords {
+    ghost from_gives = { λ answer words. words ≡ words_of (reply_of answer) };
 
-fn two(value: u64, second: u64) -> ReplyWords
-    ensures { result ≡ accepted value second 2 }
-{
-    ReplyWords {
-        number: 0,
-        values: [value, second],
-        count: 2,
-    }
-}
-
-pub fn reply_of(answer: Answer) -> ReplyWords
-    ensures { result ≡ words_of (reply_of answer) }
-{
-    match answer {
-        Answer::Created => none(),
-        Answer::Begun { epoch } => one(epoch),
-        Answer::Appended { rows } => one(rows as u64),
-        Answer::Cleared { entries } => one(entries as u64),
-        Answer::Closed { lce, oldest } => two(lce, oldest),
-        Answer::BegunRo { ticket } => one(ticket),
-        Answer::EndedRo { left } => one(left as u64),
-        Answer::Scanned { rows, ones } => two(rows as u64, ones as u64),
-        Answer::AdvancedLse { lse } => one(lse),
-        Answer::Rewritten { rows: _ } => one(1),
-        Answer::Skipped { rows: _ } => one(0),
-        Answer::Saved { bytes } => one(bytes as u64),
-        Answer::Recovered => none(),
-        Answer::Refused(r) => ReplyWords {
-            number: refusal_number(r),
-            values: [0, 0],
-            count: 0,
-        },
+    fn from(answer: Answer) -> ReplyWords {
+        match answer {
+            Answer::Created => said([0, 0], 0),
+            Answer::Begun { epoch } => said([epoch, 0], 1),
+            Answer::Appended { rows } => said([rows as u64, 0], 1),
+            Answer::Cleared { entries } => said([entries as u64, 0], 1),
+            Answer::Closed { lce, oldest } => said([lce, oldest], 2),
+            Answer::BegunRo { ticket } => said([ticket, 0], 1),
+            Answer::EndedRo { left } => said([left as u64, 0], 1),
+            Answer::Scanned { rows, ones } => said([rows as u64, ones as u64], 2),
+            Answer::AdvancedLse { lse } => said([lse, 0], 1),
+            Answer::Rewritten { rows: _ } => said([1, 0], 1),
+            Answer::Skipped { rows: _ } => said([0, 0], 1),
+            Answer::Saved { bytes } => said([bytes as u64, 0], 1),
+            Answer::Recovered => said([0, 0], 0),
+            Answer::Refused(r) => ReplyWords {
+                number: refusal_number(r),
+                values: [0, 0],
+                count: 0,
+            },
+        }
     }
 }

@@ -6,3 +6,4 @@ pub mod Copied
 pub mod Blank
 pub mod Store
 pub mod Partition
+pub mod Move

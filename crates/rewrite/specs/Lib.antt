@@ -1,3 +1,4 @@
 pub mod Kept
 pub mod Copied
+pub mod Move
 pub mod Passes

@@ -6,6 +6,7 @@ use area::Area;
 pub mod copying;
 mod ends;
 pub mod keep;
+pub mod moves;
 
 // The entries that are kept, and how many rows they have.
 #[repr(C)]

@@ -10,13 +10,13 @@ ghost use Rattle.visible.specs.Passes.{as_top};
 ghost use Rattle.rewrite_plan.specs.Plan.{spans_in, plan_of, roll_epoch, roll_epochs, purge_epoch, purge_epochs};
 
 use area::Area;
-use places::in_use;
 use rules::Entry;
 use rules::limits::ENTRIES_MAX;
+use visible::View;
 use visible::delete::{Top, find_top, hides};
-use visible::page;
 
 // For the entry at each index: 0 where it goes, else its new epoch.
+// Numbers and no Option: the definitions plan_of and kept hold them so.
 #[repr(C)]
 #[derive(Clone, Copy)]
 pub struct Plan {
@@ -29,45 +29,21 @@ pub struct Plan {
 pub fn has_epoch(a: Area, i: u64) -> bool
     ensures { result ≡ has_epoch i (spans_in a) }
 {
-    let n = in_use(a.count, ENTRIES_MAX);
-    let mut k = 0;
-    while k < n {
-        let e = a.at[k];
-        if e.epoch == i {
-            return true;
-        }
-        k += 1;
-    }
-    false
+    a.entries().iter().any(|e| e.epoch == i)
 }
 
 // Whether a purge at l leaves the entry as it is.
 fn stays(e: Entry, l: u64) -> bool
     ensures { result ≡ (leb l e.epoch && not (eqb e.mark 1 && leb e.epoch l)) }
 {
-    if e.epoch < l {
-        return false;
-    }
-    if e.mark != 1 {
-        return true;
-    }
-    l < e.epoch
+    l <= e.epoch && (e.mark != 1 || l < e.epoch)
 }
 
 // Whether a purge at l is skipped: no entry is below l and no delete (01: clearing) at or below it.
 pub fn skips(a: Area, l: u64) -> bool
     ensures { result ≡ skipping l (spans_in a) }
 {
-    let n = in_use(a.count, ENTRIES_MAX);
-    let mut k = 0;
-    while k < n {
-        let e = a.at[k];
-        if !stays(e, l) {
-            return false;
-        }
-        k += 1;
-    }
-    true
+    a.entries().iter().all(|e| stays(*e, l))
 }
 
 // ---- what becomes of each entry
@@ -75,25 +51,19 @@ pub fn skips(a: Area, l: u64) -> bool
 fn roll_epoch(e: Entry, i: u64) -> u64
     ensures { result ≡ roll_epoch i (bare_span 0 e) }
 {
-    if e.epoch == i {
-        return 0;
-    }
-    e.epoch
+    if e.epoch == i { 0 } else { e.epoch }
 }
 
 // The transaction of epoch i (01: load) is rolled back: its entries go.
 pub fn roll_plan(a: Area, i: u64) -> Plan
     ensures { result ≡ plan_of (roll_epochs i (spans_in a)) }
 {
-    let n = in_use(a.count, ENTRIES_MAX);
-    let mut plan = [0u64; ENTRIES_MAX];
-    let mut k = 0;
-    while k < n {
-        let e = a.at[k];
-        plan[k] = roll_epoch(e, i);
-        k += 1;
+    let es = a.entries();
+    let mut at = [0; ENTRIES_MAX];
+    for (k, e) in es.iter().enumerate() {
+        at[k] = roll_epoch(*e, i);
     }
-    Plan { at: plan }
+    Plan { at }
 }
 
 // The entry at index k, after the greatest delete is known.
@@ -101,18 +71,12 @@ fn purge_epoch(top: Top, e: Entry, l: u64, k: usize) -> u64
     ensures { result ≡ purge_epoch l (covers (as_top top) k e.epoch) (bare_span 0 e) }
 {
     if e.mark == 1 {
-        if e.epoch <= l {
-            return 0;
-        }
-        return e.epoch;
+        if e.epoch <= l { 0 } else { e.epoch }
+    } else if hides(top, k, e.epoch) {
+        0
+    } else {
+        e.epoch.max(l)
     }
-    if hides(top, k, e.epoch) {
-        return 0;
-    }
-    if e.epoch < l {
-        return l;
-    }
-    e.epoch
 }
 
 // Purge at l: deletes (01: clearings) of at most l go, with the rows that they hide; other rows of at most l
@@ -120,16 +84,11 @@ fn purge_epoch(top: Top, e: Entry, l: u64, k: usize) -> u64
 pub fn purge_plan(a: Area, l: u64) -> Plan
     ensures { result ≡ plan_of (purge_epochs l (spans_in a) (spans_in a)) }
 {
-    let n = in_use(a.count, ENTRIES_MAX);
-    let v = page(l);
-    let none = [0u64; 0];
-    let top = find_top(v, &none, a, n);
-    let mut plan = [0u64; ENTRIES_MAX];
-    let mut k = 0;
-    while k < n {
-        let e = a.at[k];
-        plan[k] = purge_epoch(top, e, l, k);
-        k += 1;
+    let es = a.entries();
+    let top = find_top(View::Ro(l), &[], es);
+    let mut at = [0; ENTRIES_MAX];
+    for (k, e) in es.iter().enumerate() {
+        at[k] = purge_epoch(top, *e, l, k);
     }
-    Plan { at: plan }
+    Plan { at }
 }

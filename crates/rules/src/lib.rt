@@ -5,6 +5,9 @@
 
 pub mod limits;
 
+ghost use Rattle.std.specs.Prelude.{◌≡◌};
+ghost use Rattle.rules.specs.Answers.{refusal_number};
+
 use limits::{DEPS_ALL, PARTITIONS_MAX, READERS_MAX, WRITERS_MAX};
 
 // The clock of 01's books: the next epoch (EC), the latest committed epoch (LCE), the latest safe epoch
@@ -20,7 +23,7 @@ pub struct Clock {
 // A read-write transaction (01: load). waiting is 0 while it is open, and 1 once it is committed above LCE. deps is
 // how many epochs were open when it began (01: deps); the epochs stand in the books' table.
 #[repr(C)]
-#[derive(Clone, Copy)]
+#[derive(Clone, Copy, Default)]
 pub struct RwTxn {
     pub epoch: u64,
     pub waiting: u64,
@@ -36,7 +39,7 @@ pub struct RwTxns {
 
 // A read-only transaction (01: page).
 #[repr(C)]
-#[derive(Clone, Copy)]
+#[derive(Clone, Copy, Default)]
 pub struct RoTxn {
     pub ticket: u64,
     pub epoch: u64,
@@ -53,7 +56,7 @@ pub struct RoTxns {
 
 // A partition (01: lot): its area, and how many rows and entries it has there.
 #[repr(C)]
-#[derive(Clone, Copy)]
+#[derive(Clone, Copy, Default)]
 pub struct Partition {
     pub area: usize,
     pub rows: usize,
@@ -84,7 +87,7 @@ pub struct State {
 // An entry of a partition: the epoch, how many rows the partition holds after it, and a mark: 0 rows, 1
 // delete (01: clearing).
 #[repr(C)]
-#[derive(Clone, Copy)]
+#[derive(Clone, Copy, Default)]
 pub struct Entry {
     pub epoch: u64,
     pub end: usize,
@@ -164,4 +167,26 @@ pub enum Command {
     Purge { partition: u64 },
     Save { epoch: u64 },
     Recover,
+}
+
+impl From<Refusal> for u64 {
+    ghost from_gives = { λ r n. n ≡ refusal_number r };
+
+    fn from(why: Refusal) -> u64
+        ensures { result ≡ refusal_number why }
+    {
+        match why {
+            Refusal::UnknownPartition => 1,
+            Refusal::NotOpen => 2,
+            Refusal::ShortOutput => 3,
+            Refusal::OutOfRange => 4,
+            Refusal::Unsound => 5,
+            Refusal::Exhausted => 6,
+            Refusal::TxnsFull => 7,
+            Refusal::RowsFull => 8,
+            Refusal::EntriesFull => 9,
+            Refusal::Blocked => 10,
+            Refusal::Corrupt => 11,
+        }
+    }
 }

@@ -2,34 +2,14 @@
 -- In order: Roomy; the bytes held, what a read makes of them; owed, Standing, Opened; Answered, Turned.
 -- Laws: proofs/Laws/Turn.antt.
 -- Assumes nothing.
-use Rattle.std.specs.Prelude.{
-  ◌≡◌,
-  Bool,
-  true,
-  false,
-  not,
-  ◌&&◌,
-  cond,
-  List,
-  [],
-  ◌∷◌,
-  ◌++◌,
-  ℕ,
-  ◌+◌,
-  ◌≤◌,
-  ◌<◌,
-  eqb,
-  length,
-  take,
-  drop,
-}
+use Rattle.std.specs.Prelude.{◌≡◌, Bool, true, false, cond, List, [], ◌∷◌, ◌++◌, ℕ, ◌+◌, ◌≤◌, ◌<◌, eqb, length}
+use Rattle.std.specs.Prelude.{take, drop}
 use Rattle.rules.specs.Store.{Store}
 use Rattle.session_line.specs.Session.{answers_to}
 use Rattle.session_line.specs.Rooms.{numbers_max, answer_max}
 use Rattle.session_line.specs.Rest.{kept_max}
 use Rattle.replay.specs.Lines.{lines_in}
 use Rattle.replay.specs.Chunks.{rest_in, session_lines}
-use Rattle.serve.specs.declared.turn.Got.{Got}
 use Rattle.serve.specs.declared.turn.Session.{Session}
 
 -- the buffers have room: for the numbers of every line, for the longest front of a line and its end, for every answer
@@ -43,16 +23,16 @@ pub record Roomy (numbers input out : List ℕ) : Type 0 where
 abbrev pub held_in : Session → List ℕ → List ℕ
 held_in s input = drop s.from (take s.end input)
 
--- the bytes that a read brought behind them: none where none were wanted
-abbrev pub came_in : Session → Got → List ℕ → List ℕ
-came_in s got input = cond s.reads (take got.count (drop s.end input)) []
+-- the so many bytes that a read brought behind them: none where none were wanted
+abbrev pub came_in : Session → ℕ → List ℕ → List ℕ
+came_in s count input = cond s.reads (take count (drop s.end input)) []
 
--- a read that did not fail and brought nothing: the input has ended
-abbrev pub is_over : Got → Bool
-is_over got = not got.failed && eqb got.count 0
+-- a read that brought nothing: the input has ended
+abbrev pub is_over : ℕ → Bool
+is_over count = eqb count 0
 
-abbrev pub ended_by : Session → Got → Bool
-ended_by s got = cond s.reads (is_over got) s.ended
+abbrev pub ended_by : Session → ℕ → Bool
+ended_by s count = cond s.reads (is_over count) s.ended
 
 -- the last line with its end, unless there is nothing
 abbrev pub closed : List ℕ → List ℕ
@@ -97,11 +77,11 @@ pub record Answered (held : List ℕ) (before : Store) (r : Session) (input out 
   pub last : rest_in held ≡ [] → rest_in (held_in r input) ≡ []
 
 -- of the bytes held and those that came; at the end of the input nothing comes after
-pub record Turned (s : Session) (got : Got) (start : List ℕ) (before : Store) (r : Session) (input out : List ℕ)
+pub record Turned (s : Session) (count : ℕ) (start : List ℕ) (before : Store) (r : Session) (input out : List ℕ)
     (after : Store) : Type 0 where
-  pub ended : r.ended ≡ ended_by s got
+  pub ended : r.ended ≡ ended_by s count
   pub owing : (more : List ℕ) → (r.ended ≡ true → more ≡ [])
-      → owed (held_in s start ++ came_in s got start) more before
+      → owed (held_in s start ++ came_in s count start) more before
       ≡ take r.written out ++ owed (held_in r input) more after
   pub size : r.written ≤ length out
   pub stands : Standing r input

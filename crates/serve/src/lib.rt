@@ -3,13 +3,13 @@
 // makes of the bytes is said of slices (src/turn.rt).
 #![tactic(auto)]
 
-ghost use Rattle.std.specs.Prelude.{◌≡◌, ◌+◌, ◌≤◌, length, take};
+ghost use Rattle.std.specs.Prelude.{◌≡◌, ◌+◌, ◌≤◌, length, take, IfOk};
 ghost use Rattle.store.specs.Kept.{store_of};
 ghost use Rattle.serve.specs.Turn.{Roomy, Opened};
 ghost use Rattle.serve.specs.Run.{RunTo};
 ghost use Rattle.serve.specs.Ends.{status_of, IsStatus};
 
-use crate::turn::{Got, Session, is_done, opening, turn};
+use crate::turn::{Session, is_done, opening, turn};
 use rules::limits::ROWS_LENT;
 use session_line::limits::NUMBERS_MAX;
 use std::io::{Read, Stderr, Stdin, Stdout, Write};
@@ -19,143 +19,97 @@ mod turn;
 // Bytes of input, and of answers, that a session holds at a time.
 const BUFFER_MAX: usize = 65536;
 
-// How a session ended: all input read and all answers written, or what failed.
+// What failed.
 #[derive(Clone, Copy)]
-enum Ended {
-    All,
+enum Failure {
     Unread,
     Unwritten,
 }
 
-// More of standard input, behind the bytes held, where more is wanted.
-fn read_more(from: Stdin, s: Session, input: &mut [u8]) -> Got
+// More of standard input, behind the bytes held, where more is wanted; answers how many bytes. 0 where more was wanted:
+// the input has ended.
+fn read_more(from: Stdin, s: Session, input: &mut [u8]) -> Result<usize, Failure>
     requires { s.end ≤ length input.old }
-    ensures { (s.end + result.count ≤ length input.new)
-        × (take s.end input.new ≡ take s.end input.old) }
+    ensures count { IfOk result (λ n. s.end + n ≤ length input.new) }
+    ensures same { take s.end input.new ≡ take s.end input.old }
 {
-    let held = s.end;
     if !s.reads {
-        return Got {
-            count: 0,
-            failed: false,
-        };
+        return Ok(0);
     }
     let mut stdin = from;
-    match stdin.read(&mut input[held..]) {
-        Ok(count) => Got {
-            count,
-            failed: false,
-        },
-        Err(_) => Got {
-            count: 0,
-            failed: true,
-        },
-    }
+    stdin.read(&mut input[s.end..]).map_err(|_| Failure::Unread)
 }
 
 // The answers of a turn, to standard output.
-fn send(to: Stdout, s: Session, out: &[u8]) -> bool
+fn send(to: Stdout, s: Session, out: &[u8]) -> Result<(), Failure>
     requires { s.written ≤ length out.now }
 {
-    let written = s.written;
     let mut stdout = to;
-    stdout.write_all(&out[..written]).is_ok()
+    stdout
+        .write_all(&out[..s.written])
+        .map_err(|_| Failure::Unwritten)
 }
 
-// How a session ended, and how it was left.
-#[derive(Clone, Copy)]
-struct Served {
-    ended: Ended,
-    session: Session,
-}
-
-// Turn after turn, until all is answered. A proved loop has to end, so a session counts its turns down, from a number
-// that no run uses up.
+// Turn after turn, until all is answered. A proved loop has to end: so many turns no run uses up.
 fn serve(
     from: Stdin,
     to: Stdout,
-    first: Session,
+    s: &mut Session,
     rows: &mut [u64],
     numbers: &mut [u64],
     input: &mut [u8],
     out: &mut [u8],
-) -> Served
+) -> Result<(), Failure>
     requires roomy { Roomy numbers.old input.old out.old }
-    requires opened { Opened first }
-    ensures { RunTo (store_of first.state rows.old first.table.at) result.ended result.session
-        input.new (store_of result.session.state rows.new result.session.table.at) }
+    requires opened { Opened s.old }
+    ensures { RunTo (store_of s.old.state rows.old s.old.table.at) result s.new
+        input.new (store_of s.new.state rows.new s.new.table.at) }
 {
-    let mut s = first;
-    while s.turns > 0 {
-        let got = read_more(from, s, input);
-        if got.failed {
-            return Served {
-                ended: Ended::Unread,
-                session: s,
-            };
-        }
-        let t = turn(s, got, input, rows, numbers, out);
-        s = t;
-        if !send(to, s, out) {
-            return Served {
-                ended: Ended::Unwritten,
-                session: s,
-            };
-        }
-        if is_done(s) {
-            return Served {
-                ended: Ended::All,
-                session: s,
-            };
+    'turns: for _ in 0..u64::MAX {
+        let count = read_more(from, *s, input)?;
+        *s = turn(*s, count, input, rows, numbers, out);
+        send(to, *s, out)?;
+        if is_done(*s) {
+            return Ok(());
         }
     }
-    Served {
-        ended: Ended::Unread,
-        session: s,
-    }
+    Err(Failure::Unread)
 }
 
 // A whole session.
-fn session(from: Stdin, to: Stdout) -> Ended {
+fn session(from: Stdin, to: Stdout) -> Result<(), Failure> {
     let mut rows = [0u64; ROWS_LENT];
     let mut numbers = [0u64; NUMBERS_MAX];
     let mut input = [0u8; BUFFER_MAX];
     let mut out = [0u8; BUFFER_MAX];
-    let first = opening(&mut rows);
-    let served = serve(
+    let mut s = opening(&mut rows);
+    serve(
         from,
         to,
-        first,
+        &mut s,
         &mut rows,
         &mut numbers,
         &mut input,
         &mut out,
-    );
-    served.ended
+    )
 }
 
 // A failure is a line on standard error. Where that cannot be written either, the status alone says it.
-fn tell(to: Stderr, ended: Ended) {
+fn tell(to: Stderr, failure: Failure) {
     let mut stderr = to;
-    match ended {
-        Ended::All => {}
-        Ended::Unread => {
-            let _ = stderr.write_all(b"session: cannot read standard input\n");
-        }
-        Ended::Unwritten => {
-            let _ = stderr.write_all(b"session: cannot write standard output\n");
-        }
-    }
+    let _ = match failure {
+        Failure::Unread => stderr.write_all(b"session: cannot read standard input\n"),
+        Failure::Unwritten => stderr.write_all(b"session: cannot write standard output\n"),
+    };
 }
 
 // The exit status of a program: 0 where all input was read and all answers were written, and else 1.
-fn status(ended: Ended) -> i32
+fn status(ended: Result<(), Failure>) -> i32
     ensures { result ≡ status_of ended }
 {
     match ended {
-        Ended::All => 0,
-        Ended::Unread => 1,
-        Ended::Unwritten => 1,
+        Ok(()) => 0,
+        Err(_) => 1,
     }
 }
 
@@ -165,6 +119,8 @@ pub fn nizgulk_session(input: Stdin, output: Stdout, errors: Stderr) -> i32
     ensures { IsStatus result }
 {
     let ended = session(input, output);
-    tell(errors, ended);
+    if let Err(failure) = ended {
+        tell(errors, failure);
+    }
     status(ended)
 }

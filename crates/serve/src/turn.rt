@@ -1,16 +1,16 @@
 // A session's turn, on slices: a chunk of input after the bytes held, and the answers to the lines that are whole.
 // 01 "A session".
-ghost use Rattle.std.specs.Prelude.{◌≡◌, true, ◌&&◌, cond, ◌+◌, ◌≤◌, ◌<◌, length, take, drop};
+ghost use Rattle.std.specs.Prelude.{◌≡◌, true, ◌&&◌, ◌+◌, ◌≤◌, ◌<◌, length, take, drop};
 ghost use Rattle.store.specs.Kept.{store_of};
 ghost use Rattle.replay.specs.Start.{started};
-ghost use Rattle.serve.specs.Turn.{Roomy, Standing, Opened, Answered, Turned, taken_in, is_over};
+ghost use Rattle.serve.specs.Turn.{Roomy, Standing, Opened, Answered, Turned, taken_in};
 
 use lent::Table;
 use rules::State;
 
 // A session between two turns: the store; which bytes of the input buffer are held, from `from` to `end`; how many
 // bytes of the other buffer are answers to write out; whether more input is wanted, since no line that is held is
-// whole; whether the input has ended; how many turns are left.
+// whole; whether the input has ended.
 #[derive(Clone, Copy)]
 pub struct Session {
     pub state: State,
@@ -20,14 +20,6 @@ pub struct Session {
     pub written: usize,
     pub reads: bool,
     pub ended: bool,
-    pub turns: u64,
-}
-
-// What a read brought: so many bytes, or it failed. None and no failure: the input has ended.
-#[derive(Clone, Copy)]
-pub struct Got {
-    pub count: usize,
-    pub failed: bool,
 }
 
 // Nothing is held, and the store is made new at 1.
@@ -36,17 +28,14 @@ pub(crate) fn opening(rows: &mut [u64]) -> Session
     ensures at_after { store_of result.state rows.new result.table.at ≡ (started rows.old).store }
 {
     let first = replay::start(rows);
-    let state = first.state;
-    let table = first.table;
     Session {
-        state,
-        table,
+        state: first.state,
+        table: first.table,
         from: 0,
         end: 0,
         written: 0,
         reads: true,
         ended: false,
-        turns: u64::MAX,
     }
 }
 
@@ -54,24 +43,7 @@ pub(crate) fn opening(rows: &mut [u64]) -> Session
 pub(crate) fn is_done(s: Session) -> bool
     ensures { result ≡ s.reads && s.ended }
 {
-    if s.reads { s.ended } else { false }
-}
-
-// A read that did not fail and brought nothing.
-fn is_over(got: Got) -> bool
-    ensures { result ≡ is_over got }
-{
-    if got.failed {
-        return false;
-    }
-    got.count == 0
-}
-
-// Only where more is wanted does a read say whether the input has ended.
-fn has_ended(reads: bool, ended: bool, over: bool) -> bool
-    ensures { result ≡ cond reads over ended }
-{
-    if reads { over } else { ended }
+    s.reads && s.ended
 }
 
 // The bytes held and those that a read brought behind them. The last line may have no end: where the input is over and
@@ -106,49 +78,41 @@ fn answer(
     out: &mut [u8],
 ) -> Session
     requires roomy { Roomy numbers.old input.old out.old }
-    requires from_le_end { (s.from ≤ end) × (end ≤ length input.old) × (0 < s.turns) }
+    requires from_le_end { (s.from ≤ end) × (end ≤ length input.old) }
     ensures answered { Answered (drop s.from (take end input.old))
         (store_of s.state rows.old s.table.at) result input.new out.new
         (store_of result.state rows.new result.table.at) }
-    ensures ended_value { (result.ended ≡ ended) × (result.turns + 1 ≡ s.turns) }
+    ensures ended_value { result.ended ≡ ended }
 {
-    let from = s.from;
-    let turns = s.turns - 1;
-    let state = s.state;
-    let table = s.table;
-    let r = replay::replay(state, table, &input[from..end], rows, numbers, out);
-    let next = r.state;
-    let entries = r.table;
-    let used = r.used;
-    if used == 0 {
-        let held = session_line::rest::keep_rest(input, from, end);
+    let r = replay::replay(s.state, s.table, &input[s.from..end], rows, numbers, out);
+    let state = r.state;
+    if r.used == 0 {
+        let held = session_line::rest::keep_rest(input, s.from, end);
         return Session {
-            state: next,
-            table: entries,
+            state,
+            table: r.table,
             from: 0,
             end: held,
             written: r.written,
             reads: true,
             ended,
-            turns,
         };
     }
     Session {
-        state: next,
-        table: entries,
-        from: from + used,
+        state,
+        table: r.table,
+        from: s.from + r.used,
         end,
         written: r.written,
         reads: false,
         ended,
-        turns,
     }
 }
 
-// A turn: what a read brought, where more was wanted, stands behind the bytes held.
+// A turn: the so many bytes that a read brought, where more was wanted, stand behind the bytes held.
 pub(crate) fn turn(
     s: Session,
-    got: Got,
+    count: usize,
     input: &mut [u8],
     rows: &mut [u64],
     numbers: &mut [u64],
@@ -156,13 +120,12 @@ pub(crate) fn turn(
 ) -> Session
     requires roomy { Roomy numbers.old input.old out.old }
     requires standing { Standing s input.old }
-    requires count_in_bounds { (s.end + got.count ≤ length input.old) × (0 < s.turns) }
-    ensures turned { Turned s got input.old (store_of s.state rows.old s.table.at)
+    requires count_in_bounds { s.end + count ≤ length input.old }
+    ensures { Turned s count input.old (store_of s.state rows.old s.table.at)
         result input.new out.new (store_of result.state rows.new result.table.at) }
-    ensures turns_value { result.turns + 1 ≡ s.turns }
 {
-    let over = is_over(got);
-    let end = take_in(input, s.reads, over, s.end, got.count);
-    let ended = has_ended(s.reads, s.ended, over);
+    let over = count == 0;
+    let end = take_in(input, s.reads, over, s.end, count);
+    let ended = if s.reads { over } else { s.ended };
     answer(s, end, ended, input, rows, numbers, out)
 }

@@ -2,7 +2,7 @@
 -- In order: where the next line stands; a line read; what it is handed on as; its answer.
 -- Laws: proofs/Laws/Turn.antt, replay/proofs/Laws/Turn.antt.
 -- Assumes nothing.
-use Rattle.std.specs.Prelude.{false, cond, List, [], ℕ, ◌+◌, ◌-◌, min, leb, eqb, length, take, drop}
+use Rattle.std.specs.Prelude.{false, cond, List, [], ℕ, ◌+◌, ◌-◌, min, leb, eqb, length, take, drop, Option, None, Some}
 use Rattle.lists.specs.Lists.{over}
 use Rattle.rules.specs.Limits.{partitions_max}
 use Rattle.rules.specs.declared.Command.{Command}
@@ -10,8 +10,7 @@ use Rattle.rules.specs.declared.Command.TheVariants.{Purge}
 use Rattle.session_text.specs.Grammar.{numbers_in, parsed, is_call}
 use Rattle.session_text.specs.Lines.{size_in, line_end}
 use Rattle.session_text.specs.Print.{printed, question}
-use Rattle.session_text.specs.declared.Parsed.{Parsed}
-use Rattle.session_text.specs.declared.Parsed.TheVariants.{Call as Is, Bad}
+use Rattle.session_text.specs.declared.Call.{Call}
 use Rattle.rules.specs.declared.Kept.{Kept}
 use Rattle.session_line.specs.Rooms.{numbers_max, answer_max}
 use Rattle.session_line.specs.Shown.{shown_in, fitting}
@@ -47,29 +46,29 @@ line_at at input =
     take (e - i) (drop i input)
 
 -- as session_text reads it
-abbrev pub parsed_in : List ℕ → List ℕ → Parsed
-parsed_in line numbers = cond (leb (length (numbers_in line)) (length numbers)) (parsed line) Bad
+abbrev pub parsed_in : List ℕ → List ℕ → Option Call
+parsed_in line numbers = cond (leb (length (numbers_in line)) (length numbers)) (parsed line) None
 
 abbrev pub words_in : List ℕ → List ℕ → List ℕ
 words_in line numbers = cond (is_call (parsed_in line numbers)) (over 0 (numbers_in line) numbers) numbers
 
 -- ---- what it is handed on as: one that is no call does nothing
 
-abbrev pub command_in : Parsed → Command
-command_in (Is c n) = c
-command_in Bad = Purge partitions_max
+abbrev pub command_in : Option Call → Command
+command_in (Some c) = c.command
+command_in None = Purge partitions_max
 
-abbrev pub rows_in : Parsed → ℕ
-rows_in (Is c n) = n
-rows_in Bad = 0
+abbrev pub rows_in : Option Call → ℕ
+rows_in (Some c) = c.rows
+rows_in None = 0
 
 -- ---- its answer, by what the call left: the rows shown, and the bytes
 
-abbrev pub shown_of : Parsed → Kept → List ℕ → List ℕ → List ℕ → List ℕ
-shown_of (Is c n) k bitmap rows numbers =
-    fitting (shown_in c k.answer k.state.partitions bitmap rows) numbers
-shown_of Bad k bitmap rows numbers = []
+abbrev pub shown_of : Option Call → Kept → List ℕ → List ℕ → List ℕ → List ℕ
+shown_of (Some c) k bitmap rows numbers =
+    fitting (shown_in c.command k.answer k.state.partitions bitmap rows) numbers
+shown_of None k bitmap rows numbers = []
 
-abbrev pub said_in : Parsed → Kept → List ℕ → List ℕ → List ℕ → List ℕ
-said_in (Is c n) k bitmap rows numbers = printed c k.answer (shown_of (Is c n) k bitmap rows numbers)
-said_in Bad k bitmap rows numbers = question
+abbrev pub said_in : Option Call → Kept → List ℕ → List ℕ → List ℕ → List ℕ
+said_in (Some c) k bitmap rows numbers = printed c.command k.answer (shown_of (Some c) k bitmap rows numbers)
+said_in None k bitmap rows numbers = question

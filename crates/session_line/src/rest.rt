@@ -4,7 +4,6 @@ ghost use Rattle.lists.specs.Lists.{over};
 ghost use Rattle.session_line.specs.Rest.{kept};
 
 use crate::limits::KEPT_MAX;
-use places::in_use;
 
 // The bytes from `from` to `to` moved to the front; answers how many. Of more than 16,385 the others are dropped: the
 // line that they begin is `?`, however it goes on.
@@ -18,11 +17,7 @@ pub fn keep_rest(buffer: &mut [u8], from: usize, to: usize) -> usize
     if buffer.len() < from {
         return 0;
     }
-    let n = in_use(in_use(KEPT_MAX, to - from), buffer.len() - from);
-    let mut i = 0;
-    while i < n {
-        buffer[i] = buffer[from + i];
-        i += 1;
-    }
+    let n = KEPT_MAX.min(to - from).min(buffer.len() - from);
+    buffer.copy_within(from..from + n, 0);
     n
 }

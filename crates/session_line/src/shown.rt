@@ -7,8 +7,7 @@ ghost use Rattle.session_text.specs.Print.{printed};
 ghost use Rattle.session_line.specs.Shown.{shown_words, fitting, shown_in};
 
 use area::partition_at;
-use places::in_use;
-use reply::reply_of;
+use reply::ReplyWords;
 use rules::limits::ROWS_MAX;
 use rules::{Answer, Command, Partitions};
 use session_text::{letter_of, print_line};
@@ -34,18 +33,15 @@ fn pick(words: &[u64], bitmap: &[u8], out: &mut [u64]) -> usize
         out.new ≡ over 0 ws out.old }
 {
     let mut k = 0;
-    let mut i = 0;
-    while i < words.len() {
+    for (i, word) in words.iter().enumerate() {
         if !is_one(bitmap, i) {
-            i += 1;
             continue;
         }
         if out.len() <= k {
             return k;
         }
-        out[k] = words[i];
+        out[k] = *word;
         k += 1;
-        i += 1;
     }
     k
 }
@@ -64,7 +60,7 @@ pub fn shown_rows(rows: &[u64], area: usize, n: usize, bitmap: &[u8], out: &mut 
         return 0;
     }
     let from = ROWS_MAX * area;
-    let end = from + in_use(in_use(n, ROWS_MAX), rows.len() - from);
+    let end = from + n.min(ROWS_MAX).min(rows.len() - from);
     pick(&rows[from..end], bitmap, out)
 }
 
@@ -92,7 +88,7 @@ pub fn print_answer(
         numbers.new ≡ over 0 ws numbers.old }
 {
     let letter = letter_of(command);
-    let reply = reply_of(answer);
+    let reply = ReplyWords::from(answer);
     let values = reply.values;
     match command {
         Command::Scan {

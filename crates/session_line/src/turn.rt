@@ -3,17 +3,15 @@
 ghost use Rattle.std.specs.Prelude.{◌≡◌, ◌++◌, ◌+◌, ◌-◌, min, leb, length, take, drop};
 ghost use Rattle.lists.specs.Lists.{part, over};
 ghost use Rattle.session_text.specs.Lines.{size_in, written_in};
-ghost use Rattle.session_line.specs.Session.{bits};
 ghost use Rattle.session_line.specs.Rooms.{answer_max};
 ghost use Rattle.session_line.specs.Turn.{room_for, cursor_at, cursor_after, line_at, parsed_in, words_in};
 ghost use Rattle.session_line.specs.Turn.{command_in, rows_in, said_in, shown_of};
 
 use crate::limits::{ANSWER_MAX, BITMAP_MAX, NUMBERS_MAX};
 use crate::shown::print_answer;
-use places::in_use;
 use rules::limits::PARTITIONS_MAX;
-use rules::{Command, Kept, State};
-use session_text::Parsed;
+use rules::{Command, Kept};
+use session_text::Call;
 
 // Where the next line begins and ends, where its answer goes, and whether there is one to answer.
 #[derive(Clone, Copy)]
@@ -31,24 +29,11 @@ pub fn room_for(numbers: usize, out: usize) -> usize
     if numbers < NUMBERS_MAX { 0 } else { out }
 }
 
-fn has_room(room: usize, written: usize) -> bool
-    ensures { result ≡ leb answer_max (room - written) }
-{
-    if room < written {
-        return false;
-    }
-    ANSWER_MAX <= room - written
-}
-
 pub fn seek(input: &[u8], room: usize, used: usize, written: usize) -> Cursor
     ensures { result ≡ cursor_at input.now room used written }
 {
     let end = session_text::line_end(input, used);
-    let more = if end == input.len() {
-        false
-    } else {
-        has_room(room, written)
-    };
+    let more = end != input.len() && ANSWER_MAX <= room.saturating_sub(written);
     Cursor {
         used,
         end,
@@ -57,63 +42,42 @@ pub fn seek(input: &[u8], room: usize, used: usize, written: usize) -> Cursor
     }
 }
 
-pub fn has_line(at: Cursor) -> bool
-    ensures { result ≡ at.more }
-{
-    at.more
-}
-
 // The line at the cursor; its numbers stand then at the front of `numbers`.
-pub fn read_line(input: &[u8], numbers: &mut [u64], at: Cursor) -> Parsed
+pub fn read_line(input: &[u8], numbers: &mut [u64], at: Cursor) -> Option<Call>
     ensures answer { result ≡ parsed_in (line_at at input.now) numbers.old }
     ensures words { numbers.new ≡ words_in (line_at at input.now) numbers.old }
 {
-    let end = in_use(at.end, input.len());
-    let from = in_use(at.used, end);
+    let end = at.end.min(input.len());
+    let from = at.used.min(end);
     session_text::parse(&input[from..end], numbers)
 }
 
 // A line that is no call is handed on as a purge of a partition that is not there: refused on every store.
-pub fn command_of(parsed: Parsed) -> Command
+pub fn command_of(parsed: Option<Call>) -> Command
     ensures { result ≡ command_in parsed }
 {
     match parsed {
-        Parsed::Bad => Command::Purge {
+        Some(call) => call.command,
+        None => Command::Purge {
             partition: PARTITIONS_MAX as u64,
         },
-        Parsed::Call { command, rows: _ } => command,
     }
 }
 
-fn rows_of(parsed: Parsed) -> usize
+fn rows_of(parsed: Option<Call>) -> usize
     ensures { result ≡ rows_in parsed }
 {
-    match parsed {
-        Parsed::Bad => 0,
-        Parsed::Call { command: _, rows } => rows,
-    }
+    parsed.map_or(0, |call| call.rows)
 }
 
 // The rows of an append, where they were read.
-pub fn batch_of(numbers: &[u64], parsed: Parsed) -> &[u64]
+pub fn batch_of(numbers: &[u64], parsed: Option<Call>) -> &[u64]
     ensures { result.now ≡ part 2 (rows_in parsed) numbers.now }
 {
     let n = numbers.len();
-    let from = in_use(2, n);
-    let last = from + in_use(rows_of(parsed), n - from);
+    let from = n.min(2);
+    let last = from + rows_of(parsed).min(n - from);
     &numbers[from..last]
-}
-
-pub fn blank_bits() -> [u8; BITMAP_MAX]
-    ensures { result ≡ bits }
-{
-    [0u8; BITMAP_MAX]
-}
-
-pub fn state_of(kept: Kept) -> State
-    ensures { result ≡ kept.state }
-{
-    kept.state
 }
 
 // The line that answers, at the front of `out`.
@@ -122,7 +86,7 @@ pub fn say(
     numbers: &mut [u64],
     out: &mut [u8],
     bitmap: [u8; BITMAP_MAX],
-    parsed: Parsed,
+    parsed: Option<Call>,
     kept: Kept,
 ) -> usize
     ensures size { result ≡ size_in (said_in parsed kept bitmap rows.now numbers.old)
@@ -132,27 +96,18 @@ pub fn say(
     ensures words { numbers.new ≡ over 0 (shown_of parsed kept bitmap rows.now
         numbers.old) numbers.old }
 {
-    match parsed {
-        Parsed::Bad => session_text::print_question(out),
-        Parsed::Call { command, rows: _ } => {
-            let answer = kept.answer;
-            print_answer(
-                command,
-                answer,
-                kept.state.partitions,
-                rows,
-                &bitmap,
-                numbers,
-                out,
-            )
-        }
-    }
-}
-
-fn past(end: usize, n: usize) -> usize
-    ensures { result ≡ min (end + 1) n }
-{
-    if end < n { end + 1 } else { n }
+    let Some(call) = parsed else {
+        return session_text::print_question(out);
+    };
+    print_answer(
+        call.command,
+        kept.answer,
+        kept.state.partitions,
+        rows,
+        &bitmap,
+        numbers,
+        out,
+    )
 }
 
 // The answer to the line at the cursor, written there; the cursor moves behind both.
@@ -162,7 +117,7 @@ pub fn answer_line(
     numbers: &mut [u64],
     out: &mut [u8],
     bitmap: [u8; BITMAP_MAX],
-    parsed: Parsed,
+    parsed: Option<Call>,
     kept: Kept,
     at: Cursor,
 ) -> Cursor
@@ -175,8 +130,8 @@ pub fn answer_line(
         numbers.old) numbers.old }
 {
     let n = out.len();
-    let written = in_use(at.written, n);
+    let written = at.written.min(n);
     let size = say(rows, numbers, &mut out[written..], bitmap, parsed, kept);
-    let used = past(at.end, input.len());
+    let used = at.end.saturating_add(1).min(input.len());
     seek(input, n, used, written + size)
 }

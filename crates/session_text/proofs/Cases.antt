@@ -15,10 +15,10 @@ use Rattle.rules.specs.declared.Command.TheVariants.{Manage, Append, Clear, Roll
 use Rattle.rules.specs.declared.ManagerCall.TheVariants.{Begin, Commit, BeginRo, EndRo, AdvanceLse}
 use Rattle.rules.specs.declared.Reader.TheVariants.{Rw, Ro}
 use Rattle.rules.specs.declared.Refusal.TheVariants.{NotOpen, Blocked}
-use Rattle.session_text.specs.declared.Parsed.{Parsed}
-use Rattle.session_text.specs.declared.Parsed.TheVariants.{Call, Bad}
+use Rattle.std.specs.Prelude.{Option, None, Some}
+use Rattle.session_text.specs.declared.Call.{Call}
 use Rattle.session_text.specs.Grammar.{words, value_of, is_number, are_numbers, numbers_of, with_one, with_two}
-use Rattle.session_text.specs.Grammar.{with_more, with_numbers, scan_by, numbers_in, parsed_short, parsed}
+use Rattle.session_text.specs.Grammar.{bare, with_more, with_numbers, scan_by, numbers_in, parsed_short, parsed}
 use Rattle.session_text.specs.Print.{decimal_by, printed, question}
 use Rattle.session_text.specs.Lines.{before_end, line_end}
 
@@ -31,14 +31,14 @@ bytes (c then s) = code c ∷ bytes s
 -- a line, what it is, and its numbers
 record Read : Type 0 where
   line : String
-  is : Parsed
+  is : Option Call
   numbers : List ℕ
 
 abbrev call : String → Command → List ℕ → Read
-call l c ns = record { line = l; is = Call c 0; numbers = ns }
+call l c ns = record { line = l; is = bare c; numbers = ns }
 
 abbrev append : String → Command → ℕ → List ℕ → Read
-append l c rows ns = record { line = l; is = Call c rows; numbers = ns }
+append l c rows ns = record { line = l; is = Some (record { command = c; rows = rows }); numbers = ns }
 
 -- the input of 01's session
 abbrev input : List Read
@@ -95,7 +95,7 @@ others =
     "" ∷ "B " ∷ "b" ∷ "A 1" ∷ "A 1  0" ∷ "A 1 0 " ∷ "D 1" ∷ "D 1 2 3" ∷ "S 2 0" ∷ "S l2" ∷ "S l2 0 1" ∷ "C" ∷ "C 1\r"
     ∷ "C -1" ∷ "C 18446744073709551616" ∷ []
 
-others-bad : map (λ (l : String). parsed (bytes l)) others ≡ replicate 15 Bad
+others-bad : map (λ (l : String). parsed (bytes l)) others ≡ replicate 15 None
 unfolding parsed parsed_short words value_of is_number are_numbers numbers_of with_one with_two with_more with_numbers
     scan_by
 others-bad = refl

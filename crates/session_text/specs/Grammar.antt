@@ -2,8 +2,9 @@
 -- In order: the letter of a call, words, numbers, a letter with its numbers, a scan, a line.
 -- Laws: proofs/Laws/Grammar.antt.
 -- Assumes nothing.
-use Rattle.std.specs.Prelude.{Bool, true, false, ◌&&◌, cond, List, [], ◌∷◌, map, ℕ, ◌+◌, ◌-◌, ◌*◌, ◌^◌, length, ltb}
-use Rattle.std.specs.Prelude.{leb, eqb}
+use Rattle.std.specs.Prelude.{Bool, ◌&&◌, cond, List, [], ◌∷◌, map, ℕ, ◌+◌, ◌-◌, ◌*◌, ◌^◌, length, ltb}
+use Rattle.std.specs.Prelude.{leb, eqb, Option, None, Some}
+use Rattle.std.specs.Option.{is_some}
 use Rattle.lists.specs.Lists.{all_of}
 use Rattle.rules.specs.declared.Command.{Command}
 use Rattle.rules.specs.declared.Command.TheVariants.{Create, Manage, Append, Clear, RollBack, Scan, Purge}
@@ -11,8 +12,7 @@ use Rattle.rules.specs.declared.Command.TheVariants.{Save, Recover}
 use Rattle.rules.specs.declared.ManagerCall.{ManagerCall}
 use Rattle.rules.specs.declared.ManagerCall.TheVariants.{Begin, Commit, BeginRo, EndRo, AdvanceLse}
 use Rattle.rules.specs.declared.Reader.TheVariants.{Rw, Ro}
-use Rattle.session_text.specs.declared.Parsed.{Parsed}
-use Rattle.session_text.specs.declared.Parsed.TheVariants.{Call, Bad}
+use Rattle.session_text.specs.declared.Call.{Call}
 
 -- a line may have so many bytes without its end
 abbrev pub line_max : ℕ
@@ -69,35 +69,39 @@ numbers_of bs = map (value_of 0) (words bs)
 
 -- ---- a letter and its numbers: C, X, R, E, L, P with one, D with two, A with two and its rows
 
-unfoldable pub with_one : ℕ → ℕ → Parsed
+-- a call without rows
+abbrev pub bare : Command → Option Call
+bare c = Some (record { command = c; rows = 0 })
+
+unfoldable pub with_one : ℕ → ℕ → Option Call
 with_one letter a =
-    cond (eqb letter 67) (Call (Manage (Commit a)) 0)
-    (cond (eqb letter 88) (Call (RollBack a) 0)
-    (cond (eqb letter 82) (Call (Manage (BeginRo a)) 0)
-    (cond (eqb letter 69) (Call (Manage (EndRo a)) 0)
-    (cond (eqb letter 76) (Call (Manage (AdvanceLse a)) 0)
-    (cond (eqb letter 80) (Call (Purge a) 0) Bad)))))
+    cond (eqb letter 67) (bare (Manage (Commit a)))
+    (cond (eqb letter 88) (bare (RollBack a))
+    (cond (eqb letter 82) (bare (Manage (BeginRo a)))
+    (cond (eqb letter 69) (bare (Manage (EndRo a)))
+    (cond (eqb letter 76) (bare (Manage (AdvanceLse a)))
+    (cond (eqb letter 80) (bare (Purge a)) None)))))
 
-unfoldable pub with_two : ℕ → ℕ → ℕ → Parsed
-with_two letter a b = cond (eqb letter 65) (Call (Append a b) 0) (cond (eqb letter 68) (Call (Clear a b) 0) Bad)
+unfoldable pub with_two : ℕ → ℕ → ℕ → Option Call
+with_two letter a b = cond (eqb letter 65) (bare (Append a b)) (cond (eqb letter 68) (bare (Clear a b)) None)
 
-unfoldable pub with_more : ℕ → ℕ → ℕ → ℕ → Parsed
-with_more letter a b rows = cond (eqb letter 65) (Call (Append a b) rows) Bad
+unfoldable pub with_more : ℕ → ℕ → ℕ → ℕ → Option Call
+with_more letter a b rows = cond (eqb letter 65) (Some (record { command = Append a b; rows = rows })) None
 
-unfoldable pub with_numbers : ℕ → List ℕ → Parsed
-with_numbers letter [] = Bad
+unfoldable pub with_numbers : ℕ → List ℕ → Option Call
+with_numbers letter [] = None
 with_numbers letter (a ∷ []) = with_one letter a
 with_numbers letter (a ∷ b ∷ []) = with_two letter a b
 with_numbers letter (a ∷ b ∷ r ∷ rs) = with_more letter a b (length (r ∷ rs))
 
 -- ---- S: who, l and an epoch or p and a ticket, then the partition
 
-unfoldable pub scan_by : ℕ → List ℕ → Parsed
-scan_by who [] = Bad
-scan_by who (a ∷ []) = Bad
+unfoldable pub scan_by : ℕ → List ℕ → Option Call
+scan_by who [] = None
+scan_by who (a ∷ []) = None
 scan_by who (a ∷ b ∷ []) =
-    cond (eqb who 108) (Call (Scan (Rw a) b) 0) (cond (eqb who 112) (Call (Scan (Ro a) b) 0) Bad)
-scan_by who (a ∷ b ∷ c ∷ rs) = Bad
+    cond (eqb who 108) (bare (Scan (Rw a) b)) (cond (eqb who 112) (bare (Scan (Ro a) b)) None)
+scan_by who (a ∷ b ∷ c ∷ rs) = None
 
 -- ---- a line, without its end
 
@@ -108,20 +112,19 @@ numbers_in (letter ∷ []) = []
 numbers_in (letter ∷ b ∷ []) = []
 numbers_in (letter ∷ b ∷ c ∷ bs) = cond (eqb letter 83) (numbers_of bs) (numbers_of (c ∷ bs))
 
-unfoldable pub parsed_short : List ℕ → Parsed
-parsed_short [] = Bad
-parsed_short (letter ∷ []) = cond (eqb letter 66) (Call (Manage Begin) 0) Bad
-parsed_short (letter ∷ b ∷ []) = Bad
+unfoldable pub parsed_short : List ℕ → Option Call
+parsed_short [] = None
+parsed_short (letter ∷ []) = cond (eqb letter 66) (bare (Manage Begin)) None
+parsed_short (letter ∷ b ∷ []) = None
 parsed_short (letter ∷ b ∷ c ∷ bs) =
     cond (eqb b 32)
     (cond (eqb letter 83)
-    (cond (are_numbers bs) (scan_by c (numbers_of bs)) Bad)
-    (cond (are_numbers (c ∷ bs)) (with_numbers letter (numbers_of (c ∷ bs))) Bad))
-    Bad
+    (cond (are_numbers bs) (scan_by c (numbers_of bs)) None)
+    (cond (are_numbers (c ∷ bs)) (with_numbers letter (numbers_of (c ∷ bs))) None))
+    None
 
-unfoldable pub parsed : List ℕ → Parsed
-parsed line = cond (ltb line_max (length line)) Bad (parsed_short line)
+unfoldable pub parsed : List ℕ → Option Call
+parsed line = cond (ltb line_max (length line)) None (parsed_short line)
 
-abbrev pub is_call : Parsed → Bool
-is_call (Call c n) = true
-is_call Bad = false
+abbrev pub is_call : Option Call → Bool
+is_call = is_some

@@ -1,21 +1,23 @@
 -- One byte more of a line's numbers. 01 "A session"; docs/DECISIONS.md D5.
--- In order: grown_by, stepped. Laws: proofs/Laws/Numbers.antt.
+-- In order: grown_by, ended, stepped. Laws: proofs/Laws/Numbers.antt.
 -- Assumes nothing.
-use Rattle.std.specs.Prelude.{true, false, ◌&&◌, cond, ℕ, ◌+◌, ◌-◌, ◌*◌, ◌^◌, ltb, eqb}
+use Rattle.std.specs.Prelude.{◌&&◌, cond, ℕ, ◌+◌, ◌-◌, ◌*◌, ◌^◌, ltb, eqb, Option, None, Some}
+use Rattle.std.specs.Option.{unwrap_or}
 use Rattle.session_text.specs.declared.numbers.Passed.{Passed}
-use Rattle.session_text.specs.declared.numbers.Next.{Next}
-use Rattle.session_text.specs.declared.numbers.Next.TheVariants.{To, Not}
 use Rattle.session_text.specs.Grammar.{is_digit}
 
 -- a value with one digit more
 abbrev pub grown_by : ℕ → ℕ → ℕ
 grown_by v b = 10 * v + (b - 48)
 
+-- a number ends that has a digit
+abbrev pub ended : ℕ → Option ℕ → Option Passed
+ended n (Some v) = Some (record { count = n + 1; value = None })
+ended n None = None
+
 -- a blank ends a number that has a digit; another byte must be a digit that keeps the number within 64 bits
-unfoldable pub stepped : Passed → ℕ → Next
+unfoldable pub stepped : Passed → ℕ → Option Passed
 stepped p b =
-    cond (eqb b 32)
-    (cond p.some (To (record { count = p.count + 1; value = 0; some = false })) Not)
-    (cond (is_digit b && ltb (grown_by p.value b) (2 ^ 64))
-    (To (record { count = p.count; value = grown_by p.value b; some = true }))
-    Not)
+    let v = grown_by (unwrap_or p.value 0) b in
+    cond (eqb b 32) (ended p.count p.value)
+    (cond (is_digit b && ltb v (2 ^ 64)) (Some (record { count = p.count; value = Some v })) None)

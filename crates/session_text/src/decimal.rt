@@ -6,7 +6,7 @@ ghost use Rattle.session_text.specs.Print.{decimal};
 // A u64 has at most so many.
 const DIGITS_MAX: usize = 20;
 
-// How many digits n has: by comparing it with the powers of 10.
+// How many digits n has: by comparing it with the powers of 10. The loop is over these, and counts no index.
 pub(crate) fn digits(n: u64) -> usize
     ensures { result ≡ length (decimal n) }
 {
@@ -22,7 +22,7 @@ pub(crate) fn digits(n: u64) -> usize
     count
 }
 
-// The digits of n from index `at` on, the last written first.
+// The digits of n from index `at` on, the last written first. The loop is over what is left of n, and counts no index.
 pub(crate) fn put_digits(n: u64, out: &mut [u8], at: usize, count: usize)
     requires { (count ≡ length (decimal n)) × (at + count ≤ length out.old) }
     ensures { out.new ≡ over at (decimal n) out.old }

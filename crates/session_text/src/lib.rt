@@ -1,28 +1,28 @@
 // The lines of a session: a line as a call, and an answer as a line. 01 "A session".
 #![tactic(auto)]
 
-use crate::call::{from_of, parse_letter, parse_numbers};
+use crate::calls::{from_of, parse_letter, parse_numbers};
 use rules::Command;
 
-mod call;
+mod calls;
 mod decimal;
 mod line;
 mod numbers;
 
-ghost use Rattle.std.specs.Prelude.{◌≡◌, cond, length, leb};
+ghost use Rattle.std.specs.Prelude.{◌≡◌, ◌==◌, cond, length, leb, position};
 ghost use Rattle.lists.specs.Lists.{over};
 ghost use Rattle.session_text.specs.Grammar.{parsed, numbers_in, is_call};
 ghost use Rattle.session_text.specs.Print.{question};
 ghost use Rattle.session_text.specs.Lines.{size_in, written_in, line_end};
 
-pub use call::letter_of;
+pub use calls::letter_of;
 pub use line::print_line;
 
-// What a line is: a call, with so many rows beside it, or none.
+// A call, with so many rows beside it.
 #[derive(Clone, Copy)]
-pub enum Parsed {
-    Call { command: Command, rows: usize },
-    Bad,
+pub struct Call {
+    pub command: Command,
+    pub rows: usize,
 }
 
 // 01's longest line, without its end: line_max of specs/Grammar.antt.
@@ -31,24 +31,30 @@ const LINE_MAX: usize = 16384;
 // What a line without its end is. The numbers of a call stand at the front of the buffer, so that the rows of an append
 // are numbers[2..2 + rows]; a line that is no call writes nothing, and so does one whose numbers have no room. 8,192
 // words are room enough for every line.
-pub fn parse(line: &[u8], numbers: &mut [u64]) -> Parsed
+pub fn parse(line: &[u8], numbers: &mut [u64]) -> Option<Call>
     ensures answer { result ≡ cond (leb (length (numbers_in line.now)) (length numbers.old))
-        (parsed line.now) Parsed.Bad }
+        (parsed line.now) None }
     ensures words { numbers.new ≡ cond (is_call result)
         (over 0 (numbers_in line.now) numbers.old) numbers.old }
 {
     if LINE_MAX < line.len() {
-        return Parsed::Bad;
+        return None;
     }
     if line.len() < 3 {
         return parse_letter(line);
     }
     if line[1] != b' ' {
-        return Parsed::Bad;
+        return None;
     }
     let letter = line[0];
-    let from = from_of(letter);
-    parse_numbers(letter, line[2], line, from, numbers)
+    parse_numbers(letter, line[2], &line[from_of(letter)..], numbers)
+}
+
+// Where the first line end stands.
+fn first_end(bytes: &[u8]) -> Option<usize>
+    ensures { result ≡ position (λ b. b == 10) bytes.now }
+{
+    bytes.iter().position(|b| *b == b'\n')
 }
 
 // The index of the first line end at or after `from`, or the length where there is none.
@@ -58,14 +64,8 @@ pub fn line_end(input: &[u8], from: usize) -> usize
     if input.len() <= from {
         return input.len();
     }
-    let mut i = from;
-    while i < input.len() {
-        if input[i] == b'\n' {
-            return i;
-        }
-        i += 1;
-    }
-    i
+    let rest = &input[from..];
+    from + first_end(rest).unwrap_or(rest.len())
 }
 
 // The answer to a line that is no call.

@@ -11,14 +11,12 @@ fn values_fit(values: &[u64], room: usize) -> bool
     ensures { result ≡ leb (length (gather spaced values.now)) room }
 {
     let mut left = room;
-    let mut i = 0;
-    while i < values.len() {
-        let n = 1 + digits(values[i]);
+    for value in values {
+        let n = 1 + digits(*value);
         if left < n {
             return false;
         }
         left -= n;
-        i += 1;
     }
     true
 }
@@ -42,10 +40,8 @@ fn put_values(values: &[u64], out: &mut [u8], at: usize) -> usize
         × (out.new ≡ over at (gather spaced values.now) out.old) }
 {
     let mut end = at;
-    let mut i = 0;
-    while i < values.len() {
-        end = put_number(values[i], out, end);
-        i += 1;
+    for value in values {
+        end = put_number(*value, out, end);
     }
     end
 }

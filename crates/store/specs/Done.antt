@@ -2,25 +2,17 @@
 -- changes.
 -- Assumes nothing.
 use Rattle.rules.specs.Store.{with_partitions_in}
+use Rattle.rules.specs.declared.Answer.{Answer}
 use Rattle.rules.specs.declared.Partitions.{Partitions}
 use Rattle.rules.specs.declared.State.{State}
-use Rattle.partition.specs.Areas.{with_partition, moved_to}
+use Rattle.partition.specs.Areas.{with_partition}
 use Rattle.plan_write.specs.declared.Write.{Write}
-use Rattle.plan_purge.specs.declared.Purge.{Purge}
 use Rattle.rules.specs.declared.Kept.{Kept}
 
-abbrev pub done_write : State → Write → Kept
-done_write s w = record {
-  state = with_partitions_in (with_partition w.place w.partition s.partitions) s;
-  answer = w.answer;
-}
+-- the books with the partition of the plan in its place
+abbrev pub done_write : State → Write → State
+done_write s w = with_partitions_in (with_partition w.place w.partition s.partitions) s
 
-abbrev pub done_purge : State → Purge → Kept
-done_purge s w = record {
-  state = with_partitions_in (moved_to w.place w.rows w.new.count s.partitions) s;
-  answer = w.answer;
-}
-
--- the books after the manager's part, with the partitions that the lots' part left
-abbrev pub done_roll_back : Kept → Partitions → Kept
-done_roll_back done ps = record { state = with_partitions_in ps done.state; answer = done.answer }
+-- the books with the partitions that a purge or a roll back left
+abbrev pub done_rewrite : State → Partitions → Answer → Kept
+done_rewrite s ps answer = record { state = with_partitions_in ps s; answer = answer }

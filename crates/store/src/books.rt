@@ -7,10 +7,11 @@ ghost use Rattle.store.specs.Kept.{create_kept, manager_kept, roll_back_kept, la
 ghost use Rattle.store.specs.Kept.{asked_commit, asked_roll_back, reached_by, asked_call};
 
 use crate::new_books;
-use epoch::{Epoch, Start};
+use epoch::Epoch;
 use partition_sound::{Asked, Verdict};
 use rules::limits::PARTITIONS_MAX;
 use rules::{Answer, Clock, Kept, ManagerCall, Partition, Partitions, Refusal, RwTxns, State};
+use std::array;
 
 // A call on the manager; rest says whether the rest of the store is sound.
 #[inline(always)]
@@ -140,20 +141,11 @@ pub fn call_core(state: State, r: Verdict, call: ManagerCall) -> Kept
 pub(crate) fn fresh() -> Partitions
     ensures { result ≡ fresh_partitions }
 {
-    let mut at = [Partition {
-        area: 0,
-        rows: 0,
-        entries: 0,
-    }; PARTITIONS_MAX];
-    at[1].area = 1;
-    at[2].area = 2;
-    at[3].area = 3;
-    at[4].area = 4;
-    at[5].area = 5;
-    at[6].area = 6;
-    at[7].area = 7;
     Partitions {
-        at: at,
+        at: array::from_fn(|p| Partition {
+            area: p,
+            ..Partition::default()
+        }),
         spare: PARTITIONS_MAX,
     }
 }
@@ -168,7 +160,7 @@ pub fn create_core(state: State, n: usize, m: usize, a: u64) -> Kept
             answer: Answer::Refused(Refusal::Unsound),
         };
     }
-    let Start::At(first) = Epoch::new(a) else {
+    let Some(first) = Epoch::new(a) else {
         return Kept {
             state: state,
             answer: Answer::Refused(Refusal::OutOfRange),

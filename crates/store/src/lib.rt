@@ -11,10 +11,10 @@ ghost use Rattle.rules.specs.Step.{begin, commit, begin_ro, end_ro, advance_lse}
 ghost use Rattle.rules.specs.declared.Reader.TheVariants.{Rw, Ro};
 ghost use Rattle.store.specs.Kept.{store_of, Left, Showed};
 
-use epoch::predecessor;
+use partition::areas;
+use plan_purge::Purge;
 use rules::limits::{DEPS_ALL, PARTITIONS_MAX, READERS_MAX, WRITERS_MAX};
-use rules::{Answer, Clock, Entry, Kept, ManagerCall, RoTxns, RwTxns, State};
-use txn_find::{no_ro, no_rw};
+use rules::{Answer, Clock, Entry, Kept, ManagerCall, Reader, RoTxn, RoTxns, RwTxn, RwTxns, State};
 
 mod books;
 mod done;
@@ -24,11 +24,9 @@ pub mod part;
 pub fn new_books(s: u64) -> State
     ensures { result ≡ created_state s }
 {
-    let base = predecessor(s);
-    let t = no_rw();
-    let p = no_ro();
-    let ts = [t; WRITERS_MAX];
-    let ps = [p; READERS_MAX];
+    let base = s.saturating_sub(1);
+    let ts = [RwTxn::default(); WRITERS_MAX];
+    let ps = [RoTxn::default(); READERS_MAX];
     let partitions = books::fresh();
     State {
         clock: Clock {
@@ -150,16 +148,29 @@ pub fn append(
     ensures { Left (step (append txn p batch.now) (store_of state rows.old
         entries.old)) result rows.new entries.new }
 {
-    let n = entries.len();
-    let m = rows.len();
-    let k = batch.len();
     let a = partition_sound::ask(state.clock, state.writers, state.partitions, state.totals);
     let rest = partition_sound::rest_ok(entries, rows, a);
     let last = area::last_entry(entries, state.partitions, p);
-    let w = plan_write::append_core(state, rest, last, n, m, k, txn, p);
-    plan_write::put_write(entries, w);
-    plan_write::write_rows(rows, batch, w);
-    done::write_done(state, w)
+    let (partitions, answer) = match plan_write::append_core(
+        state,
+        rest,
+        last,
+        batch.len(),
+        txn,
+        p,
+    ) {
+        Ok(w) => {
+            plan_write::put_write(entries, w);
+            plan_write::write_rows(rows, batch, w);
+            let next = areas::with_partition(state.partitions, w.place, w.partition);
+            let answer = Answer::Appended {
+                rows: w.partition.rows,
+            };
+            (next, answer)
+        }
+        Err(why) => (state.partitions, Answer::Refused(why)),
+    };
+    done::rewrite_done(state, partitions, answer)
 }
 
 // A clearing of partition p by transaction txn. Refusals, in this order: 5, 1, 2, 9.
@@ -168,14 +179,20 @@ pub fn clear(state: State, entries: &mut [Entry], rows: &mut [u64], txn: u64, p:
     ensures { Left (step (clear txn p) (store_of state rows.old entries.old))
         result rows.new entries.new }
 {
-    let n = entries.len();
-    let m = rows.len();
     let a = partition_sound::ask(state.clock, state.writers, state.partitions, state.totals);
     let rest = partition_sound::rest_ok(entries, rows, a);
-    let w = plan_write::clear_core(state, rest, n, m, txn, p);
-    plan_write::put_write(entries, w);
-    plan_write::keep_rows(rows, w);
-    done::write_done(state, w)
+    let (partitions, answer) = match plan_write::clear_core(state, rest, txn, p) {
+        Ok(w) => {
+            plan_write::put_write(entries, w);
+            let next = areas::with_partition(state.partitions, w.place, w.partition);
+            let answer = Answer::Cleared {
+                entries: w.partition.entries,
+            };
+            (next, answer)
+        }
+        Err(why) => (state.partitions, Answer::Refused(why)),
+    };
+    done::rewrite_done(state, partitions, answer)
 }
 
 // Rolling back transaction a in all partitions. Refusals, in this order: 5, 2.
@@ -195,7 +212,36 @@ pub fn roll_back(state: State, entries: &mut [Entry], rows: &mut [u64], a: u64) 
     let next = books::roll_back_core(state, r, a);
     let go = books::goes_on(next);
     let partitions = undo::lots::roll_lots(entries, rows, state.partitions, a, go);
-    done::roll_back_done(next, partitions)
+    done::rewrite_done(next.state, partitions, next.answer)
+}
+
+// A reader scans partition p: a bit a row in bitmap. Refusals, in this order: 5, 1, 2, 3.
+#[inline(always)]
+fn scan(
+    state: State,
+    entries: &[Entry],
+    rows: &[u64],
+    bitmap: &mut [u8],
+    reader: Reader,
+    p: u64,
+) -> Answer
+    ensures { Showed (step (scan reader p bitmap.old) (store_of state rows.now
+        entries.now)) result bitmap.new (store_of state rows.now
+        entries.now) }
+{
+    let a = partition_sound::ask(state.clock, state.writers, state.partitions, state.totals);
+    let rest = partition_sound::rest_ok(entries, rows, a);
+    let lot = area::load(entries, state.partitions, p);
+    match plan_scan::scan_core(state, rest, lot, bitmap.len(), reader, p) {
+        Ok(w) => {
+            plan_scan::write_bits(bitmap, w);
+            Answer::Scanned {
+                rows: w.rows,
+                ones: w.ones,
+            }
+        }
+        Err(why) => Answer::Refused(why),
+    }
 }
 
 // Transaction i scans partition p: a bit a row in bitmap. Refusals, in this order: 5, 1, 2, 3.
@@ -211,13 +257,7 @@ pub fn scan_rw(
         entries.now)) result bitmap.new (store_of state rows.now
         entries.now) }
 {
-    let k = bitmap.len();
-    let a = partition_sound::ask(state.clock, state.writers, state.partitions, state.totals);
-    let rest = partition_sound::rest_ok(entries, rows, a);
-    let lot = area::load(entries, state.partitions, p);
-    let w = plan_scan::rw_core(state, rest, lot, k, i, p);
-    plan_scan::write_bits(bitmap, w);
-    plan_scan::look_done(w)
+    scan(state, entries, rows, bitmap, Reader::Rw(i), p)
 }
 
 // The read-only transaction of ticket t scans partition p. Refusals, in this order: 5, 1, 2, 3.
@@ -233,13 +273,7 @@ pub fn scan_ro(
         entries.now)) result bitmap.new (store_of state rows.now
         entries.now) }
 {
-    let k = bitmap.len();
-    let a = partition_sound::ask(state.clock, state.writers, state.partitions, state.totals);
-    let rest = partition_sound::rest_ok(entries, rows, a);
-    let lot = area::load(entries, state.partitions, p);
-    let w = plan_scan::ro_core(state, rest, lot, k, t, p);
-    plan_scan::write_bits(bitmap, w);
-    plan_scan::look_done(w)
+    scan(state, entries, rows, bitmap, Reader::Ro(t), p)
 }
 
 // Purging partition p at LSE. Refusals, in this order: 5, 1. part::live_rows returns the part in force.
@@ -248,13 +282,18 @@ pub fn purge(state: State, entries: &mut [Entry], rows: &mut [u64], p: u64) -> K
     ensures { Left (step (purge p) (store_of state rows.old entries.old))
         result rows.new entries.new }
 {
-    let n = entries.len();
-    let m = rows.len();
     let a = partition_sound::ask(state.clock, state.writers, state.partitions, state.totals);
     let rest = partition_sound::rest_ok(entries, rows, a);
     let lot = area::load(entries, state.partitions, p);
-    let w = plan_purge::purge_core(state, rest, lot, n, m, p);
-    plan_purge::put_purge(entries, w);
-    plan_purge::purge_rows(rows, w);
-    done::purge_done(state, w)
+    let (partitions, answer) = match plan_purge::purge_core(state, rest, lot, p) {
+        Err(reason) => (state.partitions, Answer::Refused(reason)),
+        Ok(Purge::Skip { kept }) => (state.partitions, Answer::Skipped { rows: kept }),
+        Ok(Purge::Rewrite { place, kept, moved }) => {
+            moved.put(entries);
+            moved.copy(rows);
+            let next = areas::moved(state.partitions, place, kept, moved.new.count);
+            (next, Answer::Rewritten { rows: kept })
+        }
+    };
+    done::rewrite_done(state, partitions, answer)
 }

@@ -13,8 +13,9 @@ pub fn no_top() -> Top
     Top { epoch: 0, edge: 0 }
 }
 
-// One entry more. The rows are lent to every pass; they are not read here.
-fn step(rows: &[u64], r: Reach, t: Top, e: Entry) -> Top
+// One entry more.
+#[tactic(auto, unfolding(crate::specs::Reach::in_reach))]
+fn step(r: Reach, t: Top, e: Entry) -> Top
     ensures { result ≡ top_turn r t e }
 {
     if e.mark != 1 {
@@ -40,15 +41,8 @@ fn step(rows: &[u64], r: Reach, t: Top, e: Entry) -> Top
 }
 
 // The entries from one index up to another, each a step.
-pub fn find(entries: &[Entry], rows: &[u64], r: Reach, start: Top, from: usize, to: usize) -> Top
+pub fn find(entries: &[Entry], r: Reach, start: Top, from: usize, to: usize) -> Top
     ensures { result ≡ turned (top_turn r) start entries.now from (to - from) }
 {
-    let mut last = start;
-    let mut i = from;
-    while i < to {
-        let e = read_entry(entries, i);
-        last = step(rows, r, last, e);
-        i += 1;
-    }
-    last
+    (from..to).fold(start, |last, i| step(r, last, read_entry(entries, i)))
 }

@@ -90,6 +90,7 @@ pub fn cuts_of(q: Partition, r: Reach, t: Top, lands: Reach, newest: Top) -> Cut
 }
 
 // Where the entries of a partition begin and end, nowhere where its numbers are out of range.
+#[tactic(auto, unfolding(crate::specs::Places::from_of))]
 pub fn from_of(q: Partition) -> usize
     ensures { result ≡ from_of q }
 {
@@ -102,6 +103,7 @@ pub fn from_of(q: Partition) -> usize
     ENTRIES_MAX * q.area
 }
 
+#[tactic(auto, unfolding(crate::specs::Places::to_of))]
 pub fn to_of(q: Partition) -> usize
     ensures { result ≡ to_of q }
 {

@@ -22,6 +22,7 @@ pub fn no_tally() -> Tally
 }
 
 // The rows of epoch j that begin at row n.
+#[tactic(auto, unfolding(crate::specs::Reach::shows))]
 pub fn is_shown(c: Cut, n: usize, j: u64) -> bool
     ensures { result ≡ shows c n j }
 {
@@ -38,6 +39,7 @@ pub fn is_shown(c: Cut, n: usize, j: u64) -> bool
 }
 
 // What was weighed before, and the rows that are not yet, of those that stand from row `base` on.
+#[tactic(auto, unfolding(crate::specs::Weighed::closed_of))]
 pub fn closed(rows: &[u64], base: usize, t: Tally) -> u64
     ensures { result ≡ closed_of rows.now base t }
 {
@@ -49,6 +51,7 @@ pub fn closed(rows: &[u64], base: usize, t: Tally) -> u64
 }
 
 // What lands up to row `end`, where the rows of epoch j begin at row t.end.
+#[tactic(auto, unfolding(crate::specs::Weighed::landed_of))]
 fn landed(rows: &[u64], c: Cut, t: Tally, end: usize, j: u64) -> u64
     ensures { result ≡ landed_of rows.now c t end j }
 {
@@ -93,12 +96,5 @@ pub fn tally(
 ) -> Tally
     ensures { result ≡ turned (tally_turn rows.now c) start entries.now from (to - from) }
 {
-    let mut last = start;
-    let mut i = from;
-    while i < to {
-        let e = read_entry(entries, i);
-        last = step(rows, c, last, e);
-        i += 1;
-    }
-    last
+    (from..to).fold(start, |last, i| step(rows, c, last, read_entry(entries, i)))
 }

@@ -12,20 +12,21 @@ const MILLIGRAMS: u64 = 4294967296;
 // What may be added to without overflow.
 const ROOM: u64 = 9223372036854775807;
 
+// A chain of `map` and `sum` was tried and was slower.
+#[tactic(auto, unfolding(rules::specs::Weight::weight))]
 fn sum(xs: &[u64]) -> u64
     requires { length xs.now ≤ rows_max }
     ensures { result ≡ weight xs.now }
 {
     let mut s: u64 = 0;
-    let mut i: usize = 0;
-    while i < xs.len() {
-        s += xs[i] % MILLIGRAMS;
-        i += 1;
+    for x in xs {
+        s += *x % MILLIGRAMS;
     }
     s
 }
 
 // Rows `from` up to `to` of those that stand from row `base` on, none where there are no such rows of a partition.
+#[tactic(auto, unfolding(crate::specs::Weighed::weighed))]
 pub fn weigh(rows: &[u64], base: usize, from: usize, to: usize) -> u64
     ensures { result ≡ weighed rows.now base from to }
 {
@@ -48,6 +49,7 @@ pub fn weigh(rows: &[u64], base: usize, from: usize, to: usize) -> u64
 }
 
 // More milligrams, to a sum that is not beyond all measure.
+#[tactic(auto, unfolding(crate::specs::Weighed::plus))]
 pub fn add(s: u64, w: u64) -> u64
     ensures { result ≡ plus s w }
 {

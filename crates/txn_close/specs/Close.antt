@@ -4,7 +4,7 @@
 -- two agree.
 -- In order: lead, run_lce, first_open, the books, the transaction closed, LCE then, the search for it.
 -- Assumes nothing.
-use Rattle.std.specs.Prelude.{Bool, cond, List, [], ◌∷◌, ℕ, suc, drop, set}
+use Rattle.std.specs.Prelude.{Bool, cond, List, [], ◌∷◌, ℕ, Option, Some, None, suc, drop, set}
 use Rattle.rules.specs.Manager.{Writer, is_open, with_lce}
 use Rattle.rules.specs.Close.{waiting_txn, committed_txns, dropped_txns, committed_manager, rolled_back_manager}
 use Rattle.rules.specs.declared.Answer.TheVariants.{Closed, Refused}
@@ -13,8 +13,6 @@ use Rattle.rules.specs.declared.Clock.{Clock}
 use Rattle.rules.specs.declared.RwTxns.{RwTxns}
 use Rattle.rules.specs.Manager.{Manager}
 use Rattle.txn.specs.Records.{cut, writers_with, table_with}
-use Rattle.txn_find.specs.declared.Found.{Found}
-use Rattle.txn_find.specs.declared.Found.TheVariants.{At, Nothing}
 use Rattle.txn_close.specs.declared.Ended.{Ended}
 use Rattle.txn_close.specs.declared.close.Books.{Books}
 use Rattle.txn_close.specs.declared.close.Reached.{Reached}
@@ -63,14 +61,14 @@ ended_with s =
     record { answer = Closed s.books.clock.lce s.oldest; clock = s.books.clock; writers = s.books.writers }
 
 -- by what the search found among ws, which the records ts show
-abbrev pub ended_by : Bool → ℕ → Clock → RwTxns → List Writer → Found → Ended
-ended_by waits i c ts ws (At j) = ended_with (settled_by c (closed_txns waits j i ws))
-ended_by waits i c ts ws Nothing = record { answer = Refused NotOpen; clock = c; writers = ts }
+abbrev pub ended_by : Bool → ℕ → Clock → RwTxns → List Writer → Option ℕ → Ended
+ended_by waits i c ts ws (Some j) = ended_with (settled_by c (closed_txns waits j i ws))
+ended_by waits i c ts ws None = record { answer = Refused NotOpen; clock = c; writers = ts }
 
 -- the table of deps then
-abbrev pub table_by : Bool → ℕ → List Writer → List ℕ → Found → List ℕ
-table_by waits i ws ds (At j) = let vs = closed_txns waits j i ws in table_with (drop (lead vs) vs)
-table_by waits i ws ds Nothing = ds
+abbrev pub table_by : Bool → ℕ → List Writer → List ℕ → Option ℕ → List ℕ
+table_by waits i ws ds (Some j) = let vs = closed_txns waits j i ws in table_with (drop (lead vs) vs)
+table_by waits i ws ds None = ds
 
 -- the rules' own wording, LCE settled
 abbrev pub closed_manager : Bool → ℕ → Manager → Manager

@@ -7,10 +7,9 @@ ghost use Rattle.rules.specs.Close.{waiting_txn};
 ghost use Rattle.txn.specs.Records.{cut, table_with, viewed, Tidy};
 ghost use Rattle.txn_close.specs.Close.{lead, reach_of, books_with, closed_txns, settled_by};
 
-use places::in_use;
 use rules::limits::{DEPS_ALL, DEPS_MAX, WRITERS_MAX};
 use rules::{Clock, RwTxn, RwTxns};
-use txn_find::no_rw;
+use txn::cut;
 
 // What a close changes beside the table of deps, which is lent (01: the books, without the lots).
 #[derive(Clone, Copy)]
@@ -38,23 +37,21 @@ struct Reached {
 fn reach(ts: RwTxns, lce: u64) -> Reached
     ensures { result ≡ reach_of lce (map (view []) (take ts.count ts.at)) }
 {
-    let n = in_use(ts.count, WRITERS_MAX);
+    let n = ts.count.min(WRITERS_MAX);
     let mut last = lce;
-    let mut k: usize = 0;
-    while k < n {
-        if ts.at[k].waiting == 0 {
+    for (k, t) in ts.at[..n].iter().enumerate() {
+        if t.waiting == 0 {
             return Reached {
                 lce: last,
                 count: k,
-                oldest: ts.at[k].epoch,
+                oldest: t.epoch,
             };
         }
-        last = ts.at[k].epoch;
-        k += 1;
+        last = t.epoch;
     }
     Reached {
         lce: last,
-        count: k,
+        count: n,
         oldest: 0,
     }
 }
@@ -67,22 +64,11 @@ fn cut_writers(ts: RwTxns, a: usize, b: usize) -> RwTxns
         × (result.count ≡ length (cut a b (take ts.count ts.at))) }
 {
     let n = ts.count;
-    let gap = b - a;
-    let z = no_rw();
     let mut at = ts.at;
-    let mut j = a;
-    while j < n {
-        let s = j + gap;
-        if s < n {
-            at[j] = at[s];
-        } else {
-            at[j] = z;
-        }
-        j += 1;
-    }
+    cut(&mut at[..n], a, b, RwTxn::default());
     RwTxns {
         at: at,
-        count: n - gap,
+        count: n - (b - a),
     }
 }
 
@@ -92,18 +78,7 @@ fn cut_words(deps: &mut [u64; DEPS_ALL], a: usize, b: usize, n: usize)
     requires deps_value { deps.old ≡ pad deps_all 0 (take n deps.old) }
     ensures { deps.new ≡ pad deps_all 0 (cut a b (take n deps.old)) }
 {
-    let gap = b - a;
-    let end = n - gap;
-    let mut j = a;
-    while j < end {
-        let w = deps[j + gap];
-        deps[j] = w;
-        j += 1;
-    }
-    while j < n {
-        deps[j] = 0;
-        j += 1;
-    }
+    cut(&mut deps[..n], a, b, 0);
 }
 
 // A row of the table, 0.
@@ -111,11 +86,7 @@ fn zero_row(deps: &mut [u64; DEPS_ALL], from: usize)
     requires { (from + deps_max ≤ deps_all) × (length deps.old ≡ deps_all) }
     ensures { deps.new ≡ over from (replicate deps_max 0) deps.old }
 {
-    let mut k: usize = 0;
-    while k < DEPS_MAX {
-        deps[from + k] = 0;
-        k += 1;
-    }
+    deps[from..from + DEPS_MAX].fill(0);
 }
 
 impl Books {

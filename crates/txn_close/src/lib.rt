@@ -4,7 +4,7 @@
 
 mod close;
 
-ghost use Rattle.std.specs.Prelude.{◌&&◌, not, cond, ◌≡◌, [], map, eqb, take};
+ghost use Rattle.std.specs.Prelude.{◌&&◌, ◌≡◌, [], map, take};
 ghost use Rattle.rules.specs.Close.{committed_manager, rolled_back_manager};
 ghost use Rattle.rules.specs.WellFormed.{manager_ok};
 ghost use Rattle.rules.specs.Calls.{close_answer};
@@ -12,14 +12,13 @@ ghost use Rattle.txn.specs.Kept.{kept_of};
 ghost use Rattle.rules.specs.Manager.{manager_in, view};
 ghost use Rattle.txn.specs.Records.{viewed, Tidy};
 ghost use Rattle.txn_find.specs.Find.{writer_at};
-ghost use Rattle.txn_close.specs.Close.{ended_by, table_by, lce_after};
+ghost use Rattle.txn_close.specs.Close.{ended_by, table_by, lce_after, closed_manager};
 
 use close::Books;
-use places::in_use;
 use rules::limits::{DEPS_ALL, WRITERS_MAX};
 use rules::{Answer, Clock, Kept, Refusal, RwTxns, State};
 use txn::parts_sound;
-use txn_find::{Found, find_writer};
+use txn_find::find_writer;
 
 // What closing a transaction answers, and what it changes beside the table of deps, which is lent.
 #[derive(Clone, Copy)]
@@ -35,7 +34,7 @@ fn close_at(clock: Clock, ts: RwTxns, deps: &mut [u64; DEPS_ALL], i: u64, waits:
     ensures { let ws = viewed ts deps.old in let f = writer_at i ts in
         (result ≡ ended_by waits i clock ts ws f) × (deps.new ≡ table_by waits i ws deps.old f) }
 {
-    let Found::At(j) = find_writer(ts, i) else {
+    let Some(j) = find_writer(ts, i) else {
         return Ended {
             answer: Answer::Refused(Refusal::NotOpen),
             clock: clock,
@@ -60,66 +59,38 @@ fn close_at(clock: Clock, ts: RwTxns, deps: &mut [u64; DEPS_ALL], i: u64, waits:
     }
 }
 
-// Commit: the transaction of epoch i waits. Refusals, in this order: 5, 2.
+// Commit and roll back, but for the lots: the transaction of epoch i is closed. Refusals, in this order: 5, 2.
+// Inlined, so that the books are copied no more often than that.
+#[inline(always)]
+fn closed(mut state: State, rest: bool, i: u64, waits: bool) -> Kept
+    ensures { let m = manager_in state in let next = closed_manager waits i m in
+        result ≡ kept_of (close_answer i (rest && manager_ok m) m next) next state }
+{
+    // early returns were tried: the books are then copied more often
+    let mut answer = Answer::Refused(Refusal::Unsound);
+    if parts_sound(rest, state.clock, state.writers, &state.deps, state.readers) {
+        let e = close_at(state.clock, state.writers, &mut state.deps, i, waits);
+        state.clock = e.clock;
+        state.writers = e.writers;
+        answer = e.answer;
+    }
+    Kept { state, answer }
+}
+
+// Commit: the transaction of epoch i waits.
 pub fn commit(state: State, rest: bool, i: u64) -> Kept
     ensures { let m = manager_in state in let next = committed_manager i m in
         result ≡ kept_of (close_answer i (rest && manager_ok m) m next) next state }
 {
-    let mut s = state;
-    let mut answer = Answer::Refused(Refusal::Unsound);
-    if parts_sound(rest, s.clock, s.writers, &s.deps, s.readers) {
-        let e = close_at(s.clock, s.writers, &mut s.deps, i, true);
-        let clock = e.clock;
-        let writers = e.writers;
-        s.clock = clock;
-        s.writers = writers;
-        answer = e.answer;
-    }
-    Kept {
-        state: s,
-        answer: answer,
-    }
+    closed(state, rest, i, true)
 }
 
-// Roll back, but for the lots: the transaction of epoch i leaves no record. Refusals, in this order: 5, 2.
+// Roll back, but for the lots: the transaction of epoch i leaves no record.
 pub fn roll_back(state: State, rest: bool, i: u64) -> Kept
     ensures { let m = manager_in state in let next = rolled_back_manager i m in
         result ≡ kept_of (close_answer i (rest && manager_ok m) m next) next state }
 {
-    let mut s = state;
-    let mut answer = Answer::Refused(Refusal::Unsound);
-    if parts_sound(rest, s.clock, s.writers, &s.deps, s.readers) {
-        let e = close_at(s.clock, s.writers, &mut s.deps, i, false);
-        let clock = e.clock;
-        let writers = e.writers;
-        s.clock = clock;
-        s.writers = writers;
-        answer = e.answer;
-    }
-    Kept {
-        state: s,
-        answer: answer,
-    }
-}
-
-// A record with these words is open, and is not the transaction of epoch i.
-fn is_other(waiting: u64, epoch: u64, i: u64) -> bool
-    ensures { result ≡ eqb waiting 0 && not (eqb epoch i) }
-{
-    if waiting == 0 { epoch != i } else { false }
-}
-
-// LCE past a record with these words: one that waits moves it, and the one closed does where it comes to wait.
-fn lce_past(waiting: u64, epoch: u64, waits: bool, last: u64) -> u64
-    ensures { result ≡ cond (eqb waiting 0 && not waits) last epoch }
-{
-    if waiting == 0 {
-        if waits {
-            return epoch;
-        }
-        return last;
-    }
-    epoch
+    closed(state, rest, i, false)
 }
 
 // LCE once the transaction (01: load) of epoch i is closed, whatever the books are: committed it waits, rolled back it
@@ -127,15 +98,18 @@ fn lce_past(waiting: u64, epoch: u64, waits: bool, last: u64) -> u64
 pub fn lce_after(lce: u64, ts: RwTxns, i: u64, waits: bool) -> u64
     ensures { result ≡ lce_after waits i lce (map (view []) (take ts.count ts.at)) }
 {
-    let n = in_use(ts.count, WRITERS_MAX);
+    let n = ts.count.min(WRITERS_MAX);
     let mut last = lce;
-    let mut k: usize = 0;
-    while k < n {
-        if is_other(ts.at[k].waiting, ts.at[k].epoch, i) {
+    for t in &ts.at[..n] {
+        if t.waiting == 0 && t.epoch != i {
             return last;
         }
-        last = lce_past(ts.at[k].waiting, ts.at[k].epoch, waits, last);
-        k += 1;
+        // One that waits moves LCE, and the one closed does where it comes to wait.
+        last = if t.waiting == 0 && !waits {
+            last
+        } else {
+            t.epoch
+        };
     }
     last
 }

@@ -16,7 +16,7 @@ ghost use Rattle.txn_read.specs.End.{ended_at};
 use rules::limits::{LAST_TICKET, READERS_MAX};
 use rules::{Answer, Kept, Refusal, RoTxns, State};
 use txn::parts_sound;
-use txn_find::{Found, find_reader};
+use txn_find::find_reader;
 
 // Opening a page at epoch e. Refusals, in this order: 5, 4, 6, 7.
 pub fn begin_ro(state: State, rest: bool, e: u64) -> Kept
@@ -24,6 +24,7 @@ pub fn begin_ro(state: State, rest: bool, e: u64) -> Kept
         result ≡ kept_of (begin_ro_answer e (rest && manager_ok m) m) (begun_ro_manager e m) state }
 {
     let mut s = state;
+    // early returns were tried: the books are then copied more often
     let mut answer = Answer::Refused(Refusal::Unsound);
     if parts_sound(rest, s.clock, s.writers, &s.deps, s.readers) {
         let at = read_only::snapshot(e, s.clock.lce);
@@ -61,7 +62,7 @@ fn end_at(ps: RoTxns, t: u64) -> Ended
     requires { (ps.count ≤ readers_max) × (ps.at ≡ pad readers_max no_ro (take ps.count ps.at)) }
     ensures { result ≡ ended_at t ps }
 {
-    let Found::At(j) = find_reader(ps, t) else {
+    let Some(j) = find_reader(ps, t) else {
         return Ended {
             answer: Answer::Refused(Refusal::NotOpen),
             readers: ps,
@@ -80,6 +81,7 @@ pub fn end_ro(state: State, rest: bool, t: u64) -> Kept
         result ≡ kept_of (end_ro_answer t (rest && manager_ok m) m) (ended_ro_manager t m) state }
 {
     let mut s = state;
+    // early returns were tried: the books are then copied more often
     let mut answer = Answer::Refused(Refusal::Unsound);
     if parts_sound(rest, s.clock, s.writers, &s.deps, s.readers) {
         let e = end_at(s.readers, t);

@@ -6,7 +6,7 @@ ghost use Rattle.rules.specs.Manager.{no_ro, ro_txn};
 ghost use Rattle.txn.specs.Records.{cut, readers_with};
 
 use rules::{RoTxn, RoTxns};
-use txn_find::no_ro;
+use txn::cut;
 
 // The epoch that e names: the value 0 means LCE.
 pub(crate) fn snapshot(e: u64, lce: u64) -> u64
@@ -41,22 +41,11 @@ pub(crate) fn cut_readers(ps: RoTxns, a: usize, b: usize) -> RoTxns
     ensures { result ≡ readers_with (cut a b (take ps.count ps.at)) ps.next }
 {
     let n = ps.count;
-    let gap = b - a;
-    let z = no_ro();
     let mut at = ps.at;
-    let mut j = a;
-    while j < n {
-        let s = j + gap;
-        if s < n {
-            at[j] = at[s];
-        } else {
-            at[j] = z;
-        }
-        j += 1;
-    }
+    cut(&mut at[..n], a, b, RoTxn::default());
     RoTxns {
         at: at,
-        count: n - gap,
+        count: n - (b - a),
         next: ps.next,
     }
 }

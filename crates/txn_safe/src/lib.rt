@@ -1,7 +1,7 @@
 // Moving LSE, and how far it may move, on the books by value. 01 "The books", Move LSE; 004 III-C 5.
 #![tactic(auto)]
 
-ghost use Rattle.std.specs.Prelude.{◌&&◌, ◌||◌, ◌≡◌, min, ◌-◌, ltb, take};
+ghost use Rattle.std.specs.Prelude.{◌&&◌, ◌||◌, ◌≡◌, min, ◌-◌, leb, ltb, take};
 ghost use mathlib.Core.List.{map, foldr};
 ghost use Rattle.lists.specs.Lists.{any_of, gather};
 ghost use Rattle.rules.specs.Manager.{manager_in, manager_with};
@@ -12,34 +12,27 @@ ghost use Rattle.txn.specs.Kept.{kept_of};
 ghost use Rattle.txn.specs.Records.{viewed};
 ghost use Rattle.txn_safe.specs.Safe.{dep_blocks, under_deps};
 
-use epoch::{lower, predecessor};
-use places::in_use;
 use rules::limits::{READERS_MAX, WRITERS_MAX};
 use rules::{Answer, Clock, Kept, Refusal, RoTxns, RwTxns, State};
 use txn::parts_sound;
 use txn_find::row_of;
 
-// 01: held. An open transaction has an epoch at or below t in its deps, closed since or not.
+// 01: held. An open transaction has an epoch at or below t in its deps, closed since or not. The label is 01's form.
 fn dep_blocks(ts: RwTxns, deps: &[u64], t: u64) -> bool
     ensures { result ≡ any_of (dep_blocks t) (viewed ts deps.now) }
 {
-    let n = in_use(ts.count, WRITERS_MAX);
+    let n = ts.count.min(WRITERS_MAX);
     let mut held = false;
-    let mut i: usize = 0;
-    'writers: while i < n {
-        let x = ts.at[i];
+    'writers: for (i, x) in ts.at[..n].iter().enumerate() {
         if x.waiting == 0 {
             let row = row_of(deps, i, x.deps);
-            let mut j: usize = 0;
-            while j < row.len() {
-                if row[j] <= t {
+            for d in row {
+                if *d <= t {
                     held = true;
                     break 'writers;
                 }
-                j += 1;
             }
         }
-        i += 1;
     }
     held
 }
@@ -48,68 +41,42 @@ fn dep_blocks(ts: RwTxns, deps: &[u64], t: u64) -> bool
 fn reader_blocks(ps: RoTxns, t: u64) -> bool
     ensures { result ≡ any_of (λ p. ltb p.epoch t) (take ps.count ps.at) }
 {
-    let n = in_use(ps.count, READERS_MAX);
-    let mut i: usize = 0;
-    while i < n {
-        if ps.at[i].epoch < t {
-            return true;
-        }
-        i += 1;
-    }
-    false
+    let n = ps.count.min(READERS_MAX);
+    ps.at[..n].iter().any(|p| p.epoch < t)
 }
 
 fn is_blocked(ts: RwTxns, deps: &[u64], ps: RoTxns, t: u64) -> bool
     ensures { result ≡ (any_of (λ p. ltb p.epoch t) (take ps.count ps.at)
         || any_of (dep_blocks t) (viewed ts deps.now)) }
 {
-    if reader_blocks(ps, t) {
-        return true;
-    }
-    dep_blocks(ts, deps, t)
+    reader_blocks(ps, t) || dep_blocks(ts, deps, t)
 }
 
 // The lowest of top and the epochs of the read-only transactions.
 fn under_readers(ps: RoTxns, top: u64) -> u64
     ensures { result ≡ foldr min top (map (λ p. p.epoch) (take ps.count ps.at)) }
 {
-    let n = in_use(ps.count, READERS_MAX);
-    let mut low = top;
-    let mut i: usize = 0;
-    while i < n {
-        low = lower(low, ps.at[i].epoch);
-        i += 1;
-    }
-    low
+    let n = ps.count.min(READERS_MAX);
+    ps.at[..n].iter().fold(top, |low, p| low.min(p.epoch))
 }
 
 // The lowest of top and just below each dep of one transaction.
 fn under_row(row: &[u64], top: u64) -> u64
     ensures { result ≡ foldr min top (map (λ d. d - 1) row.now) }
 {
-    let mut low = top;
-    let mut j: usize = 0;
-    while j < row.len() {
-        low = lower(low, predecessor(row[j]));
-        j += 1;
-    }
-    low
+    row.iter().fold(top, |low, d| low.min(d.saturating_sub(1)))
 }
 
 // The lowest of top and just below each dep of an open transaction.
 fn under_writers(ts: RwTxns, deps: &[u64], top: u64) -> u64
     ensures { result ≡ foldr min top (gather under_deps (viewed ts deps.now)) }
 {
-    let n = in_use(ts.count, WRITERS_MAX);
+    let n = ts.count.min(WRITERS_MAX);
     let mut low = top;
-    let mut i: usize = 0;
-    while i < n {
-        let x = ts.at[i];
+    for (i, x) in ts.at[..n].iter().enumerate() {
         if x.waiting == 0 {
-            let row = row_of(deps, i, x.deps);
-            low = under_row(row, low);
+            low = under_row(row_of(deps, i, x.deps), low);
         }
-        i += 1;
     }
     low
 }
@@ -127,6 +94,7 @@ pub fn advance_lse(state: State, rest: bool, t: u64) -> Kept
         result ≡ kept_of (advance_lse_answer t (rest && manager_ok m) m) (advanced_manager t m) state }
 {
     let mut s = state;
+    // early returns were tried: the books are then copied more often
     let mut answer = Answer::Refused(Refusal::Unsound);
     if parts_sound(rest, s.clock, s.writers, &s.deps, s.readers) {
         if t == 0 {

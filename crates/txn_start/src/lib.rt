@@ -22,6 +22,7 @@ pub fn begin(state: State, rest: bool) -> Kept
         result ≡ kept_of (begin_answer (rest && manager_ok m) m) (begun_manager m) state }
 {
     let mut s = state;
+    // early returns were tried: the books are then copied more often
     let mut answer = Answer::Refused(Refusal::Unsound);
     if parts_sound(rest, s.clock, s.writers, &s.deps, s.readers) {
         if s.clock.ec == Epoch::LAST.number + 1 {

@@ -16,14 +16,12 @@ pub(crate) fn put_deps(ts: RwTxns, deps: &mut [u64; DEPS_ALL]) -> usize
     let n = ts.count;
     let from = DEPS_MAX * n;
     let mut k: usize = 0;
-    let mut j: usize = 0;
-    while j < n {
-        let t = ts.at[j];
-        if t.waiting == 0 {
+    for t in &ts.at[..n] {
+        let open = t.waiting == 0;
+        if open {
             deps[from + k] = t.epoch;
             k += 1;
         }
-        j += 1;
     }
     k
 }

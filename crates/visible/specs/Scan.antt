@@ -9,7 +9,6 @@ use Rattle.rules.specs.Bitmap.{bytes_for, bitmap_after}
 use Rattle.rules.specs.WellFormed.{ends_ok}
 use Rattle.visible.specs.declared.View.{View}
 use Rattle.area.specs.declared.Area.{Area}
-use Rattle.visible.specs.declared.Scanned.{Scanned}
 use Rattle.visible.specs.View.{sees_view}
 use Rattle.area.specs.Area.{entries_in}
 use Rattle.visible.specs.Flags.{flags_of}
@@ -25,8 +24,8 @@ view_flags v deps es = flags_of (sees_view v deps) (sees_view v deps) es
 abbrev pub table_flags : View → List ℕ → Area → List Bool
 table_flags v deps t = view_flags v deps (entries_in t)
 
-unfoldable pub scanned : View → List ℕ → Area → ℕ → List ℕ → Scanned
-scanned v deps t rows lent = record { ones = cond (scan_ok t rows lent) (ones (table_flags v deps t)) 0 }
+unfoldable pub scanned : View → List ℕ → Area → ℕ → List ℕ → ℕ
+scanned v deps t rows lent = cond (scan_ok t rows lent) (ones (table_flags v deps t)) 0
 
 unfoldable pub bitmap_scanned : View → List ℕ → Area → ℕ → List ℕ → List ℕ
 bitmap_scanned v deps t rows lent = cond (scan_ok t rows lent) (bitmap_after (table_flags v deps t) lent) lent

@@ -1,16 +1,11 @@
 -- What a reader sees, by its view and its deps. 01 "Who sees a row".
--- In order: is_rw, sees_view, page_view.
+-- In order: sees_view.
 -- Assumes nothing.
-use Rattle.std.specs.Prelude.{Bool, cond, List, ℕ, eqb}
+use Rattle.std.specs.Prelude.{Bool, List, ℕ}
 use Rattle.rules.specs.Sees.{sees_rw, up_to}
 use Rattle.visible.specs.declared.View.{View}
-
-abbrev pub is_rw : View → Bool
-is_rw v = eqb v.rw 1
+use Rattle.visible.specs.declared.View.TheVariants.{Rw, Ro}
 
 unfoldable pub sees_view : View → List ℕ → ℕ → Bool
-sees_view v deps = cond (is_rw v) (sees_rw v.epoch deps) (up_to v.epoch)
-
--- a read-only transaction at epoch e
-abbrev pub page_view : ℕ → View
-page_view e = record { epoch = e; rw = 0 }
+sees_view (Rw i) deps = sees_rw i deps
+sees_view (Ro e) deps = up_to e

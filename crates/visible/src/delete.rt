@@ -1,7 +1,6 @@
 // The greatest delete (01: clearing) that a reader applies, and so the greatest that it sees: it alone says which
 // rows are hidden. 01 "Who sees a row".
-ghost use Rattle.std.specs.Prelude.{◌≡◌, ◌<◌, take};
-ghost use Rattle.rules.specs.Limits.{entries_max};
+ghost use Rattle.std.specs.Prelude.{◌≡◌, ◌<◌};
 ghost use Rattle.rules.specs.Top.{top_delete, top_step, covers};
 ghost use Rattle.visible.specs.View.{sees_view};
 ghost use Rattle.rules.specs.Bare.{bare_span, bare};
@@ -9,12 +8,10 @@ ghost use Rattle.visible.specs.Passes.{as_top};
 
 use crate::View;
 use crate::sees::sees;
-use area::Area;
-use places::in_use;
 use rules::Entry;
-use rules::limits::ENTRIES_MAX;
 
 // Its epoch, and one more than the index of its last entry; both 0 with none.
+// Numbers and no Option: rules' definition Top holds them so.
 #[derive(Clone, Copy)]
 pub struct Top {
     pub epoch: u64,
@@ -23,7 +20,7 @@ pub struct Top {
 
 // The entry at index i, after those before it.
 fn top_step(v: View, deps: &[u64], top: Top, e: Entry, i: usize) -> Top
-    requires { i < entries_max }
+    requires { i < usize.MAX }
     ensures { as_top result ≡ top_step (sees_view v deps.now) i (as_top top) (bare_span 0 e) }
 {
     if e.mark != 1 {
@@ -41,17 +38,13 @@ fn top_step(v: View, deps: &[u64], top: Top, e: Entry, i: usize) -> Top
     }
 }
 
-// Of the first n entries, or of all where there are fewer.
-pub fn find_top(v: View, deps: &[u64], t: Area, n: usize) -> Top
-    ensures { as_top result ≡ top_delete (sees_view v deps.now) (bare 0 (take n t.at)) }
+// Of entries in their order.
+pub fn find_top(v: View, deps: &[u64], es: &[Entry]) -> Top
+    ensures { as_top result ≡ top_delete (sees_view v deps.now) (bare 0 es.now) }
 {
-    let m = in_use(n, ENTRIES_MAX);
     let mut top = Top { epoch: 0, at: 0 };
-    let mut i = 0;
-    while i < m {
-        let e = t.at[i];
-        top = top_step(v, deps, top, e, i);
-        i += 1;
+    for (i, e) in es.iter().enumerate() {
+        top = top_step(v, deps, top, *e, i);
     }
     top
 }

@@ -5,8 +5,7 @@ use crate::ends::ends_ok;
 use crate::write::write;
 use area::Area;
 use bitmap::bytes_for;
-use places::in_use;
-use rules::limits::{ENTRIES_MAX, ROWS_MAX};
+use rules::limits::ROWS_MAX;
 
 pub mod delete;
 mod ends;
@@ -16,52 +15,29 @@ pub mod sees;
 mod write;
 
 ghost use Rattle.std.specs.Prelude.{◌≡◌};
-ghost use Rattle.visible.specs.View.{page_view};
 ghost use Rattle.visible.specs.Scan.{scanned, bitmap_scanned};
 
-// A reader: rw is 1 for a read-write transaction (01: load) of this epoch, whose deps are lent beside it, the epochs
-// that were open when it began; else it is a read-only one (01: page) at this epoch, and what is lent is not read.
-#[repr(C)]
+// A reader by its epoch. The deps of a read-write transaction, the epochs that were open when it began, are lent
+// beside it; for a read-only one what is lent is not read.
 #[derive(Clone, Copy)]
-pub struct View {
-    pub epoch: u64,
-    pub rw: u64,
+pub enum View {
+    // read-write (01: load)
+    Rw(u64),
+    // read-only (01: page)
+    Ro(u64),
 }
 
-// A read-only transaction at this epoch.
-pub fn page(epoch: u64) -> View
-    ensures { result ≡ page_view epoch }
-{
-    View {
-        epoch: epoch,
-        rw: 0,
-    }
-}
-
-// How many rows the reader is shown.
-#[repr(C)]
-#[derive(Clone, Copy)]
-pub struct Scanned {
-    pub ones: usize,
-}
-
-// A bit a row: whether the reader is shown it. Where the ends are not those of so many rows, there are more
-// rows than a partition has, or the bitmap is shorter than they need, nothing is written and the count is 0.
-pub fn scan(v: View, deps: &[u64], t: Area, rows: usize, bitmap: &mut [u8]) -> Scanned
+// A bit a row: whether the reader is shown it; answers how many are shown. Where the ends are not those of so many
+// rows, there are more rows than a partition has, or the bitmap is shorter than they need, nothing is written and the
+// count is 0.
+#[tactic(auto, unfolding(crate::specs::Scan::scan_ok, crate::specs::Scan::scanned, crate::specs::Scan::bitmap_scanned))]
+pub fn scan(v: View, deps: &[u64], t: Area, rows: usize, bitmap: &mut [u8]) -> usize
     ensures answer { result ≡ scanned v deps.now t rows bitmap.old }
     ensures words { bitmap.new ≡ bitmap_scanned v deps.now t rows bitmap.old }
 {
-    let n = in_use(t.count, ENTRIES_MAX);
-    if !ends_ok(t, n, rows) {
-        return Scanned { ones: 0 };
+    let es = t.entries();
+    if !ends_ok(es, rows) || ROWS_MAX < rows || bitmap.len() < bytes_for(rows) {
+        return 0;
     }
-    if ROWS_MAX < rows {
-        return Scanned { ones: 0 };
-    }
-    if bitmap.len() < bytes_for(rows) {
-        return Scanned { ones: 0 };
-    }
-    Scanned {
-        ones: write(v, deps, t, n, rows, bitmap),
-    }
+    write(v, deps, es, rows, bitmap)
 }

@@ -2,25 +2,14 @@
 ghost use Rattle.std.specs.Prelude.{◌≡◌, cond, ◌++◌, ◌≤◌, ◌+◌, ◌*◌, length, take, drop};
 ghost use Rattle.rules.specs.Bitmap.{byte_of, packed};
 
-fn bit(b: bool) -> u8
-    ensures { result ≡ cond b 1 0 }
-{
-    if b {
-        return 1;
-    }
-    0
-}
-
 // The byte of the eight flags from `from` on, the first lowest.
 fn byte_at(shown: &[bool], from: usize) -> u8
     requires { from + 8 ≤ length shown.now }
     ensures { result ≡ byte_of (take 8 (drop from shown.now)) }
 {
     let mut byte = 0;
-    let mut k = 8;
-    while 0 < k {
-        k -= 1;
-        byte = bit(shown[from + k]) + 2 * byte;
+    for k in (0..8).rev() {
+        byte = u8::from(shown[from + k]) + 2 * byte;
     }
     byte
 }
@@ -30,9 +19,7 @@ pub(crate) fn pack(shown: &[bool], n: usize, bitmap: &mut [u8])
     requires { (8 * n ≤ length shown.now) × (n ≤ length bitmap.old) }
     ensures { bitmap.new ≡ packed n shown.now ++ drop n bitmap.old }
 {
-    let mut j = 0;
-    while j < n {
+    for j in 0..n {
         bitmap[j] = byte_at(shown, 8 * j);
-        j += 1;
     }
 }

@@ -1,6 +1,5 @@
 // Which epochs a reader sees; the deletes (01: clearings) of these it applies. 01 "Who sees a row"; 004 III-C 3, IV-C.
 ghost use Rattle.std.specs.Prelude.{◌≡◌, true};
-ghost use Rattle.lists.specs.Lists.{elem};
 ghost use Rattle.visible.specs.Category.{is_in};
 ghost use Rattle.visible.specs.View.{sees_view};
 
@@ -18,20 +17,6 @@ enum Category {
     Finished,
 }
 
-// Whether j is among the deps.
-fn in_deps(deps: &[u64], j: u64) -> bool
-    ensures { result ≡ elem j deps.now }
-{
-    let mut i = 0;
-    while i < deps.len() {
-        if j == deps[i] {
-            return true;
-        }
-        i += 1;
-    }
-    false
-}
-
 // Where epoch j stands to transaction i. Own and later are decided first: such epochs among the deps count for nothing.
 fn category_of(i: u64, deps: &[u64], j: u64) -> Category
     ensures { is_in result i deps.now j ≡ true }
@@ -42,24 +27,24 @@ fn category_of(i: u64, deps: &[u64], j: u64) -> Category
     if i < j {
         return Category::Later;
     }
-    if in_deps(deps, j) {
+    if deps.contains(&j) {
         return Category::Pending;
     }
     Category::Finished
 }
 
 // Whether the reader sees epoch j.
+#[tactic(auto, unfolding(crate::specs::View::sees_view, rules::specs::Sees::sees_rw))]
 pub fn sees(v: View, deps: &[u64], j: u64) -> bool
     ensures { result ≡ sees_view v deps.now j }
 {
-    if v.rw != 1 {
-        return j <= v.epoch;
-    }
-    let category = category_of(v.epoch, deps, j);
-    match category {
-        Category::Own => true,
-        Category::Later => false,
-        Category::Pending => false,
-        Category::Finished => true,
+    match v {
+        View::Rw(i) => match category_of(i, deps, j) {
+            Category::Own => true,
+            Category::Later => false,
+            Category::Pending => false,
+            Category::Finished => true,
+        },
+        View::Ro(e) => j <= e,
     }
 }

@@ -1,7 +1,7 @@
 -- Laws of header_in: where the search for the last whole header stands, header by header; what holds of the header that
 -- is found; it is that of rules' checkpoint_in. Definitions: specs/Header.antt.
 -- Assumes nothing.
-use mathlib.Core.Path.{◌≡◌, refl, sym, ◌∙◌, ap}
+use mathlib.Core.Path.{◌≡◌, refl, sym, ◌∙◌}
 use mathlib.Core.Bool.{Bool, true, false, not, cond}
 use mathlib.Core.List.{List}
 use Prim.Native.Nat.{ℕ, zero, suc, ◌+◌, ◌-◌, ◌≤◌, ◌<◌}
@@ -15,10 +15,10 @@ use Rattle.lists.proofs.Laws.Bools.{split}
 use Rattle.rules.specs.Limits.{rows_max, partitions_max}
 use Rattle.rules.specs.Checkpoint.{header_size, header_ok, sum_of, body_size, rows_in, numbers_in, last_from}
 use Rattle.rules.specs.Checkpoint.{checkpoint_in}
-use Rattle.rules.specs.Checkpoint.{is_corrupt, checkpoint_of}
-use Rattle.checkpoint.specs.declared.Found.{Found}
+use Rattle.rules.specs.declared.Refusal.TheVariants.{Corrupt}
+use Rattle.std.specs.Prelude.{Ok, Err, IfOk, IfErr}
 use Rattle.checkpoint.specs.declared.Header.{Header}
-use Rattle.checkpoint.specs.Header.{no_header, found_at, not_found, header_at, end_of, header_from, header_in}
+use Rattle.checkpoint.specs.Header.{no_header, header_at, end_of, header_from, header_in}
 use Rattle.checkpoint.specs.Header.{checkpoint_by, found_in}
 use Rattle.laws.proofs.Laws.Bytes.{length-numbers_in}
 use Rattle.laws.proofs.Laws.Checkpoint.{header_ok_lem}
@@ -39,34 +39,34 @@ sought-start last file = record { bound = length file; enough = omega arith; sam
 -- a whole header stands there
 from-whole : (last n : ℕ) (h : Header) (file : List ℕ) (i : ℕ) → length file ≤ i + n → i + header_size ≤ length file
     → let g = header_at file i in header_from last n h file i ≡
-    cond (not (ok_after last h g)) not_found
-    (cond (ltb (length file) (end_of g)) (found_at h) (header_from last (n - 1) g file (end_of g)))
+    cond (not (ok_after last h g)) (Err Corrupt)
+    (cond (ltb (length file) (end_of g)) (Ok h) (header_from last (n - 1) g file (end_of g)))
 unfolding header_from
 from-whole last zero h file i e w = absurd (omega arith)
 from-whole last (suc n) h file i e w = let m : suc n - 1 ≡ n = omega arith in
     rw (m, le-ltb (length file) (i + header_size) w)
 
 from-short : (last n : ℕ) (h : Header) (file : List ℕ) (i : ℕ) → length file < i + header_size
-    → header_from last n h file i ≡ found_at h
+    → header_from last n h file i ≡ Ok h
 unfolding header_from
 from-short last zero h file i w = refl
 from-short last (suc n) h file i w = rw (lt-ltb (length file) (i + header_size) w)
 
 module _ {last : ℕ} {file : List ℕ} {h : Header} {i : ℕ} (s : Sought last file h i) where
-  pub sought-short : length file < i + header_size → found_at h ≡ header_in last file
+  pub sought-short : length file < i + header_size → Ok h ≡ header_in last file
   sought-short w = sym (s.same ∙ from-short last s.bound h file i w)
 
   module _ (w : i + header_size ≤ length file) where
     whole : let g = header_at file i in header_in last file ≡
-        cond (not (ok_after last h g)) not_found
-        (cond (ltb (length file) (end_of g)) (found_at h) (header_from last (s.bound - 1) g file (end_of g)))
+        cond (not (ok_after last h g)) (Err Corrupt)
+        (cond (ltb (length file) (end_of g)) (Ok h) (header_from last (s.bound - 1) g file (end_of g)))
     whole = s.same ∙ from-whole last s.bound h file i s.enough w
 
-    pub sought-corrupt : ok_after last h (header_at file i) ≡ false → not_found ≡ header_in last file
+    pub sought-corrupt : ok_after last h (header_at file i) ≡ false → Err Corrupt ≡ header_in last file
     sought-corrupt f = sym (rw f at whole)
 
     pub sought-cut : ok_after last h (header_at file i) ≡ true → length file < end_of (header_at file i)
-        → found_at h ≡ header_in last file
+        → Ok h ≡ header_in last file
     sought-cut t c = sym (rw (t, lt-ltb (length file) (end_of (header_at file i)) c) at whole)
 
     pub sought-next : ok_after last h (header_at file i) ≡ true → end_of (header_at file i) ≤ length file
@@ -91,7 +91,7 @@ none-whole last file =
     record { epoch = omega arith; eight = refl; counts = refl; empty = λ z. refl; body = omega arith }
 
 from-holds : (last n : ℕ) (h : Header) (file : List ℕ) (i : ℕ) → Whole last file h
-    → Whole last file (header_from last n h file i).header
+    → IfOk (header_from last n h file i) (Whole last file)
 unfolding header_from
 from-holds last zero h file i w = w
 from-holds last (suc n) h file i w = let g = header_at file i in
@@ -105,10 +105,24 @@ from-holds last (suc n) h file i w = let g = header_at file i in
       empty = k.none;
       body = ltb-false (length file) (end_of g) b;
     })))
-    (λ no. rw (f, no) (none-whole last file))
+    (λ no. rw (f, no) tt)
 
-pub header-whole : (last : ℕ) (file : List ℕ) → Whole last file (header_in last file).header
+pub header-whole : (last : ℕ) (file : List ℕ) → IfOk (header_in last file) (Whole last file)
 header-whole last file = from-holds last (length file) no_header file 0 (none-whole last file)
+
+-- where there is none, the file is corrupt
+from-errs : (last n : ℕ) (h : Header) (file : List ℕ) (i : ℕ)
+    → IfErr (header_from last n h file i) (λ why. why ≡ Corrupt)
+unfolding header_from
+from-errs last zero h file i = tt
+from-errs last (suc n) h file i = let g = header_at file i in
+    split (ltb (length file) g.body) (λ t. rw t tt) λ f. split (ok_after last h g)
+    (λ ok. split (ltb (length file) (end_of g)) (λ t. rw (f, ok, t) tt) λ b. rw (f, ok, b)
+    (from-errs last n g file (end_of g)))
+    (λ no. rw (f, no) refl)
+
+pub header-errs : (last : ℕ) (file : List ℕ) → IfErr (header_in last file) (λ why. why ≡ Corrupt)
+header-errs last file = from-errs last (length file) no_header file 0
 
 -- ---- it is the header of the checkpoint that a file has
 
@@ -133,30 +147,6 @@ from_found last (suc n) h file i le = let g = header_at file i in
     (from_found last n g file (end_of g) (ltb-false (length file) (end_of g) b))))
     (λ no. rw (f, no)))
 
--- what is found in a file is corrupt, or some header
-from-cases : (P : Found → Type 0) → P not_found → ((h : Header) → P (found_at h)) → (last n : ℕ) (h : Header)
-    (file : List ℕ) (i : ℕ) → P (header_from last n h file i)
-unfolding header_from
-from-cases P x y last zero h file i = y h
-from-cases P x y last (suc n) h file i = let g = header_at file i in
-    split (ltb (length file) g.body) (λ t. rw t (y h)) λ f. split (ok_after last h g)
-    (λ ok. split (ltb (length file) (end_of g)) (λ t. rw (f, ok, t) (y h)) λ b. rw (f, ok, b)
-    (from-cases P x y last n g file (end_of g)))
-    (λ no. rw (f, no) x)
-
-module _ (last : ℕ) (file : List ℕ) where
-  pub header-found : checkpoint_in last file ≡ found_in file (header_in last file)
-  unfolding rows_in numbers_in
-  header-found = from_found last (length file) no_header file 0 (omega arith)
-
-  pub header-corrupt : is_corrupt (checkpoint_in last file) ≡ (header_in last file).corrupt
-  unfolding found_in
-  header-corrupt = ap is_corrupt header-found
-      ∙ from-cases (λ f. is_corrupt (found_in file f) ≡ f.corrupt) refl (λ h. refl) last (length file) no_header file 0
-
-  -- also where it is corrupt: then there is no row
-  pub header_checkpoint : checkpoint_of (checkpoint_in last file) ≡ checkpoint_by file (header_in last file).header
-  unfolding found_in rows_in numbers_in
-  header_checkpoint = ap checkpoint_of header-found
-      ∙ from-cases (λ f. checkpoint_of (found_in file f) ≡ checkpoint_by file f.header) refl (λ h. refl)
-      last (length file) no_header file 0
+pub header-found : (last : ℕ) (file : List ℕ) → checkpoint_in last file ≡ found_in file (header_in last file)
+unfolding rows_in numbers_in
+header-found last file = from_found last (length file) no_header file 0 (omega arith)

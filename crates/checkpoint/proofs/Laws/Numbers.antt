@@ -1,15 +1,16 @@
 -- Numbers as bytes, piece by piece. Definitions: rules' number_of, numbers_in and bytes_of.
--- In order: the number of two bytes, of two parts; the bytes of a number, a byte more written; a number more read,
--- weighed, written; those that are left written.
+-- In order: the number of two bytes and of eight; the bytes of a number; a number more read, weighed, written; those
+-- that are left written.
 -- Assumes nothing.
-use mathlib.Core.Path.{◌≡◌, sym, ◌∙◌}
+use mathlib.Core.Path.{◌≡◌, refl, sym, ◌∙◌}
 use mathlib.Core.List.{List, [], ◌∷◌, ◌++◌, append-nil}
-use Prim.Native.Nat.{ℕ, zero, suc, ◌+◌, ◌*◌, ◌/◌, ◌%◌, ◌≤◌}
-use native.Mathlib.Nat.{mul-add, mul_assoc, mul-suc}
-use native.Mathlib.Numerals.{add-one}
+use Prim.Native.Nat.{ℕ, zero, suc, ◌+◌, ◌*◌, ◌/◌, ◌%◌, ◌^◌, ◌≤◌}
+use native.Mathlib.Nat.{mul-add, mul-suc}
 use native.Mathlib.Omega.{arith}
 use lib.ListN.{length, take, drop, get_or, set, drop_of_length-le}
-use lib.Seq.{take-add, drop-cons, drop-drop, take-nil, drop-nil}
+use lib.Seq.{take-add, drop-drop}
+use Rattle.std.specs.Int.{w16, w64, byte_at, bytes_low_first, from_le_bytes, to_le_bytes}
+use Rattle.std.proofs.Math.Nat.{div-one, div-div-eq-div-mul}
 use Rattle.lists.specs.Lists.{gather, part, over}
 use Rattle.lists.proofs.Laws.Select.{gather_append}
 use Rattle.lists.proofs.Laws.Parts.{length_part}
@@ -19,38 +20,48 @@ use Rattle.rules.specs.Weight.{milligrams, weight}
 use Rattle.rules.specs.Checkpoint.{number_of, numbers_in, bytes_of}
 use Rattle.laws.proofs.Laws.Bytes.{length-bytes_of, length-numbers_in, length-numbers}
 
--- ---- the number of bytes
+-- ---- a number and its bytes, as the library reads and writes them
 
-pub number_pair : (at : ℕ) (bs : List ℕ) → at + 2 ≤ length bs
-    → number_of (part at 2 bs) ≡ get_or bs at 0 + 256 * get_or bs (at + 1) 0
+pub number_2 : (bs : List ℕ) → length bs ≡ 2 → from_le_bytes w16 bs ≡ number_of bs
 unfolding number_of
-number_pair at bs h = rw (add-one at, drop-cons bs at 0 (omega arith), drop-cons bs (suc at) 0 (omega arith))
-    (omega arith)
+number_2 (a ∷ b ∷ []) l = omega arith
+number_2 [] l = absurd (omega arith)
+number_2 (a ∷ []) l = absurd (omega arith)
+number_2 (a ∷ b ∷ c ∷ bs) l = absurd (omega arith)
 
--- what a byte behind w others counts
-abbrev scale : ℕ → ℕ
-scale zero = 1
-scale (suc w) = 256 * scale w
-
-number-take : (w n : ℕ) (bs : List ℕ)
-    → number_of (take (w + n) bs) ≡ number_of (take w bs) + scale w * number_of (take n (drop w bs))
+pub number_8 : (bs : List ℕ) → length bs ≡ 8 → from_le_bytes w64 bs ≡ number_of bs
 unfolding number_of
-number-take zero n bs = let z : 0 + n ≡ n = omega arith in rw z (omega arith)
-number-take (suc w) n [] = rw (take-nil {A = ℕ} (suc w + n), drop-nil {A = ℕ} (suc w), take-nil {A = ℕ} n) (omega arith)
-number-take (suc w) n (b ∷ bs) = let z : suc w + n ≡ suc (w + n) = omega arith in
-    rw (z, number-take w n bs) (omega (arith, mul_assoc 256 (scale w) (number_of (take n (drop w bs)))))
+number_8 (a ∷ b ∷ c ∷ d ∷ e ∷ f ∷ g ∷ h ∷ []) l = omega arith
+number_8 [] l = absurd (omega arith)
+number_8 (a ∷ []) l = absurd (omega arith)
+number_8 (a ∷ b ∷ []) l = absurd (omega arith)
+number_8 (a ∷ b ∷ c ∷ []) l = absurd (omega arith)
+number_8 (a ∷ b ∷ c ∷ d ∷ []) l = absurd (omega arith)
+number_8 (a ∷ b ∷ c ∷ d ∷ e ∷ []) l = absurd (omega arith)
+number_8 (a ∷ b ∷ c ∷ d ∷ e ∷ f ∷ []) l = absurd (omega arith)
+number_8 (a ∷ b ∷ c ∷ d ∷ e ∷ f ∷ g ∷ []) l = absurd (omega arith)
+number_8 (a ∷ b ∷ c ∷ d ∷ e ∷ f ∷ g ∷ h ∷ i ∷ bs) l = absurd (omega arith)
 
-pub number_join : (w n at : ℕ) (bs : List ℕ)
-    → number_of (part at (w + n) bs) ≡ number_of (part at w bs) + scale w * number_of (part (at + w) n bs)
-number_join w n at bs = number-take w n (drop at bs) ∙ rw (drop-drop w at bs)
+-- byte i, and those above it
+byte_is : (i n : ℕ) → byte_at i n ≡ n / 256 ^ i % 256
+byte_is zero n = rw (div-one n)
+byte_is (suc i) n = refl
 
--- ---- the bytes of a number
-
--- the lowest byte is written, and n others are to come
-pub byte_next : (n x i : ℕ) (l : List ℕ) → i + suc n ≤ length l
-    → over (i + 1) (bytes_of n (x / 256)) (set l i (x % 256)) ≡ over i (bytes_of (suc n) x) l
+bytes_are : (k i n : ℕ) → bytes_low_first i k n ≡ bytes_of k (n / 256 ^ i)
 unfolding bytes_of
-byte_next n x i l h = sym (over-cons i (x % 256) (bytes_of n (x / 256)) l (omega (arith, length-bytes_of n (x / 256))))
+bytes_are zero i n = refl
+bytes_are (suc k) i n = let p : 256 ^ suc i ≡ 256 ^ i * 256 = omega arith in
+    rw (byte_is i n, bytes_are k (suc i) n, p, div-div-eq-div-mul n (256 ^ i) 256)
+
+take_bytes : (k m x : ℕ) → k ≤ m → take k (bytes_of m x) ≡ bytes_of k x
+unfolding bytes_of
+take_bytes zero m x h = refl
+take_bytes (suc k) zero x h = absurd (omega arith)
+take_bytes (suc k) (suc m) x h = rw (take_bytes k m (x / 256) (omega arith))
+
+-- the low bytes of a word
+pub low_bytes : (k x : ℕ) → k ≤ 8 → take k (to_le_bytes w64 x) ≡ bytes_of k x
+low_bytes k x h = rw (bytes_are 8 0 x, div-one x, take_bytes k 8 x h)
 
 -- ---- numbers of w bytes, one after the other
 

@@ -2,19 +2,16 @@
 -- Elsewhere: what foldr min says of the members (Laws/Order.antt).
 -- Assumes nothing.
 use mathlib.Core.Path.{◌≡◌, refl, ap, ◌∙◌}
-use mathlib.Core.List.{List, [], ◌∷◌, ◌++◌, map, foldr}
-use Prim.Native.Nat.{ℕ, ◌+◌, ◌<◌, min}
+use mathlib.Core.List.{List, [], ◌∷◌, ◌++◌, foldr}
+use Prim.Native.Nat.{ℕ, min}
 use native.Mathlib.Omega.{arith}
-use lib.ListN.{take, drop, get_or}
-use Rattle.lists.specs.Lists.{gather}
-use Rattle.lists.proofs.Laws.Places.{Scan, scan-next}
 
 -- an element taken from the front goes into the bound
 pub lowest-front : (b x : ℕ) (xs : List ℕ) → foldr min b (x ∷ xs) ≡ foldr min (min b x) xs
 lowest-front b x [] = omega arith
 lowest-front b x (y ∷ xs) = let ih = lowest-front b x xs in omega arith
 
-lowest-append : (b : ℕ) (xs ys : List ℕ) → foldr min b (xs ++ ys) ≡ foldr min (foldr min b xs) ys
+pub lowest-append : (b : ℕ) (xs ys : List ℕ) → foldr min b (xs ++ ys) ≡ foldr min (foldr min b xs) ys
 lowest-append b [] ys = refl
 lowest-append b (x ∷ xs) ys =
     let ih = lowest-append b xs ys in let a = lowest-front (foldr min b xs) x ys in
@@ -25,16 +22,3 @@ lowest-append b (x ∷ xs) ys =
 pub lowest-back : (b : ℕ) (xs ys : List ℕ) → foldr min b (xs ++ ys) ≡ foldr min (foldr min b ys) xs
 lowest-back b [] ys = refl
 lowest-back b (x ∷ xs) ys = ap (min x) (lowest-back b xs ys)
-
--- one place further in an array, d being what a read past its end would give
-module _ {A : Type 0} {xs : List A} {count places n i : ℕ} (s : Scan xs count places n i) (d : A) (h : i < n)
-    (b : ℕ) where
-  pub lowest-next : (f : A → ℕ)
-      → foldr min b (map f (drop i (take count xs)))
-      ≡ foldr min (min b (f (get_or xs i d))) (map f (drop (i + 1) (take count xs)))
-  lowest-next f = rw (scan-next s d h) (lowest-front b (f (get_or xs i d)) (map f (drop (i + 1) (take count xs))))
-
-  pub lowest-gather : (f : A → List ℕ)
-      → foldr min b (gather f (drop i (take count xs)))
-      ≡ foldr min (foldr min b (f (get_or xs i d))) (gather f (drop (i + 1) (take count xs)))
-  lowest-gather f = rw (scan-next s d h) (lowest-append b (f (get_or xs i d)) (gather f (drop (i + 1) (take count xs))))

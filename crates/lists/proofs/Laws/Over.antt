@@ -1,7 +1,7 @@
 -- Writing over a part of a list, piece by piece. Definition: lists' over.
--- In order: nothing, one element, an element after others, one part after another, behind what lies there; one more
--- behind what is written, and a copy element by element; a part read from elsewhere, a part of a part; the part from an
--- index on; a row after those of a padded list.
+-- In order: nothing, one element, what the library writes to a part, an element after others, one part after another,
+-- behind what lies there; one more behind what is written; a part read from elsewhere, a part of a part; the part from
+-- an index on; a row after those of a padded list.
 -- Elsewhere: what lies in a part, written over it, and lengths (Laws/Parts.antt).
 -- Assumes nothing.
 use mathlib.Core.Path.{◌≡◌, sym, ◌∙◌, ap}
@@ -9,12 +9,11 @@ use mathlib.Core.Logic.{◌⊎◌, ⊎_elim}
 use mathlib.Core.List.{List, [], ◌∷◌, ◌++◌, append_assoc, append-nil}
 use Prim.Native.Nat.{ℕ, suc, ◌+◌, ◌-◌, ◌≤◌, ◌<◌}
 use native.Mathlib.Omega.{arith}
-use native.Mathlib.Numerals.{add-one}
 use lib.ListN.{length, take, drop, get_or, set, replicate, length-append, length-drop, length-replicate}
 use lib.ListN.{drop_of_length-le, take-append-drop, replicate-append-replicate}
 use lib.Seq.{length-take-le, drop_at, set_at, take-add, take-suc, take-take, drop-cons, drop-drop, set_split}
 use lib.Seq.{take_all, take-set-le, take-append_seam, take-append-le, drop-append-le, drop-append-add}
-use lib.Seq.{get_or-take, get_or-drop}
+use borrow.Rule.Slice.PartMut.{put_mid}
 use Rattle.lists.specs.Lists.{pad, part, over}
 use Rattle.lists.proofs.Laws.Parts.{length_part, drop-take, length_over, take-over, drop-over, part-over-before}
 use Rattle.lists.proofs.Laws.Parts.{part-over-after, drop-replicate}
@@ -25,6 +24,10 @@ module _ {A : Type 0} where
 
   pub over-one : (i : ℕ) (x : A) (l : List A) → i < length l → over i (x ∷ []) l ≡ set l i x
   over-one i x l h = let e : i + 1 ≡ suc i = omega arith in rw (set_split l i x h, e)
+
+  -- what the library writes to a part
+  pub put-over : (a k : ℕ) (vs xs : List A) → length vs ≡ k → put_mid a k xs vs ≡ over a vs xs
+  put-over a k vs xs e = rw (sym e, drop-drop (length vs) a xs)
 
   drop-set-here : (i : ℕ) (x : A) (l : List A) → i < length l → drop i (set l i x) ≡ x ∷ drop (suc i) l
   drop-set-here i x l h = rw (set_split l i x h)
@@ -70,15 +73,6 @@ module _ {A : Type 0} where
   over-push i vs x l h = sym (over-append i vs (x ∷ []) l (omega arith)
       ∙ over-one (i + length vs) x (over i vs l) (omega (arith, length_over i vs l (omega arith))))
 
-  -- the first j of vs are written, and one more
-  pub copy-next : (i : ℕ) (vs l : List A) (d : A) (j : ℕ) → j < length vs → i + j < length l
-      → set (over i (take j vs) l) (i + j) (get_or vs j d) ≡ over i (take (j + 1) vs) l
-  copy-next i vs l d j h k = let n = length-take-le j vs (omega arith) in
-      let e : i + j ≡ i + length (take j vs) = omega arith in
-      rw (add-one j, take-suc vs j d h)
-      (ap (λ m. set (over i (take j vs) l) m (get_or vs j d)) e
-      ∙ over-push i (take j vs) (get_or vs j d) l (omega arith))
-
   -- one more of xs over the front of ys, and all of ys gone
   pub put_next : (xs ys : List A) (j : ℕ) (d : A) → j < length xs → j < length ys
       → set (take j xs ++ drop j ys) j (get_or xs j d) ≡ take (suc j) xs ++ drop (suc j) ys
@@ -94,15 +88,6 @@ module _ {A : Type 0} where
   pub part_apart : (i : ℕ) (vs l : List A) → i + length vs ≤ length l → (b n : ℕ)
       → (b + n ≤ i) ⊎ (i + length vs ≤ b) → part b n (over i vs l) ≡ part b n l
   part_apart i vs l fits b n = ⊎_elim (λ h. part-over-before i vs l fits b n h) (λ h. part-over-after i vs l fits b n h)
-
-  pub get_d-apart : (i : ℕ) (vs l : List A) → i + length vs ≤ length l → (b : ℕ) (d : A)
-      → (b + 1 ≤ i) ⊎ (i + length vs ≤ b) → get_or (over i vs l) b d ≡ get_or l b d
-  get_d-apart i vs l fits b d h =
-      sym (first (over i vs l)) ∙ (ap (λ xs. get_or xs 0 d) (part_apart i vs l fits b 1 h) ∙ first l)
-    where
-      first : (xs : List A) → get_or (part b 1 xs) 0 d ≡ get_or xs b d
-      first xs = let z : b + 0 ≡ b = omega arith in
-          get_or-take 1 (drop b xs) 0 d (omega arith) ∙ (get_or-drop b xs 0 d ∙ rw z)
 
   pub part-part : (i m k n : ℕ) (l : List A) → k + n ≤ m → part k n (part i m l) ≡ part (i + k) n l
   part-part i m k n l h = let e : m ≡ k + (m - k) = omega arith in

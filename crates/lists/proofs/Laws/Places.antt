@@ -1,22 +1,22 @@
 -- The places in use of an array, one place after the other; what a loop collects in an array of its own.
--- In order: an array's length; the next place in use, and the end; a loop over them; from a place on; a store after
--- those in use. Nothing here knows of a transaction or a partition.
+-- In order: those in use; from a place on; a store after those in use. Nothing here knows of a transaction or a
+-- partition.
 -- Assumes nothing.
 use mathlib.Core.Path.{◌≡◌, sym, ap, subst, ◌∙◌}
-use mathlib.Core.Bool.{Bool, true, false, not, ◌&&◌, ◌||◌}
-use mathlib.Core.List.{List, [], ◌∷◌, ◌++◌, map, append_assoc}
+use mathlib.Core.Bool.{Bool, true, ◌&&◌}
+use mathlib.Core.List.{List, [], ◌∷◌, ◌++◌, append_assoc}
 use Prim.Native.Nat.{ℕ, zero, suc, ◌+◌, ◌-◌, ◌≤◌, ◌<◌, min}
 use native.Mathlib.Nat.{not-suc-le-zero, le_of_suc-le-suc}
 use native.Mathlib.Numerals.{add-one}
 use native.Mathlib.Omega.{arith}
-use lib.ListN.{length, take, drop, get_or, set, replicate, length-append, length-replicate, length-take, length-set}
-use lib.ListN.{length-drop, length-map, drop_of_length-le, take-append-drop, get_or-replicate}
-use lib.Seq.{drop-cons, take_all, take-suc, set-append_seam, set-append_left, set_at, get_or-take, get_or-drop}
+use lib.ListN.{length, take, drop, get_or, set, replicate, length-append, length-replicate, length-set}
+use lib.ListN.{length-drop, drop_of_length-le, take-append-drop, get_or-replicate}
+use lib.Seq.{drop-cons, take_all, take-suc, set-append_seam, set-append_left, set_at, get_or-drop}
 use lib.Seq.{ext_get_or}
 use lib.Seq.{length-take-le}
 use lib.Dec.{leb}
 use borrow.Author.Tests.{leb-true, leb-false}
-use Rattle.lists.specs.Lists.{pad, any_of, all_of, elem, distinct}
+use Rattle.lists.specs.Lists.{pad, all_of}
 use Rattle.lists.proofs.Laws.Bools.{split, and_left, and_right}
 
 -- what passes at every element passes at each place
@@ -26,73 +26,19 @@ all-at p [] d a i h = absurd (not-suc-le-zero h)
 all-at p (x ∷ xs) d a zero h = and_left (p x) (all_of p xs) a
 all-at p (x ∷ xs) d a (suc i) h = all-at p xs d (and_right (p x) (all_of p xs) a) i (le_of_suc-le-suc h)
 
--- an array's length, from that of its elements as values
-pub unmapped : {A B : Type 0} (f : A → B) (xs : List A) (n : ℕ) → length (map f xs) ≡ n → length xs ≡ n
-unmapped f xs n e = sym (length-map xs f) ∙ e
-
 -- n of the places of xs are in use, or all where n is greater; d is what a read past the end would give
 module _ {A : Type 0} (xs : List A) (n places : ℕ) (len : length xs ≡ places) where
-  pub used-next : (d : A) (j : ℕ) → j < min n places
-      → drop j (take n xs) ≡ get_or xs j d ∷ drop (j + 1) (take n xs)
-  used-next d j h =
-      let l : j < length (take n xs) = rw length-take (omega arith) in
-      rw (add-one j, drop-cons (take n xs) j d l, get_or-take n xs j d (omega arith))
-
-  pub used-end : (j : ℕ) → min n places ≤ j → drop j (take n xs) ≡ []
-  used-end j h =
-      let l : length (take n xs) ≤ j = rw length-take (omega arith) in
-      drop_of_length-le (take n xs) l
-
-  pub used-length : length (take n xs) ≡ min n places
-  used-length = rw len at (length-take n xs)
-
   pub take-used : take (min n places) xs ≡ take n xs
   take-used = split (leb n places)
       (λ t. let g = leb-true n places t in let e : min n places ≡ n = omega arith in rw e)
       (λ f. let g = leb-false n places f in let e : min n places ≡ places = omega arith in
       rw (e, take_all places xs (omega arith), take_all n xs (omega arith)))
 
-  -- a test of any or of all, one place further
-  pub any_next : (p : A → Bool) (d : A) (j : ℕ) (r : Bool) → j < min n places → p (get_or xs j d) ≡ r
-      → any_of p (drop j (take n xs)) ≡ r || any_of p (drop (j + 1) (take n xs))
-  any_next p d j r h e = rw (used-next d j h, e)
-
-  pub any-end : (p : A → Bool) (j : ℕ) → min n places ≤ j → any_of p (drop j (take n xs)) ≡ false
-  any-end p j h = rw (used-end j h)
-
--- ---- a loop over the places in use: it stands at place i of the n that count says are in use
-
-pub record Scan {A : Type 0} (xs : List A) (count places n i : ℕ) : Type 0 where
-  pub high : i ≤ n
-  pub used : n ≡ min count places
-  pub len : length xs ≡ places
-
-module _ {A : Type 0} {xs : List A} {count places n : ℕ} where
-  pub scan-start : length xs ≡ places → n ≡ min count places → Scan xs count places n 0
-  scan-start len used = record { high = omega arith; used = used; len = len }
-
-  module _ {i : ℕ} (s : Scan xs count places n i) where
-    pub scan-on : i < n → Scan xs count places n (i + 1)
-    scan-on h = record { high = omega arith; used = s.used; len = s.len }
-
-    pub scan-next : (d : A) → i < n → drop i (take count xs) ≡ get_or xs i d ∷ drop (i + 1) (take count xs)
-    scan-next d h = let u = s.used in used-next xs count places s.len d i (omega arith)
-
-    pub scan-end : n ≤ i → drop i (take count xs) ≡ []
-    scan-end h = let u = s.used in used-end xs count places s.len i (omega arith)
-
 -- ---- from a place on to the end of the array
 
 module _ {A : Type 0} (xs : List A) where
   pub from_next : (d : A) (j : ℕ) → j < length xs → drop j xs ≡ get_or xs j d ∷ drop (j + 1) xs
   from_next d j h = rw (add-one j) (drop-cons xs j d h)
-
--- r says whether element j stands among those after it, the last part of xs
-pub distinct-next : (xs : List ℕ) (j d : ℕ) (r : Bool) → j < length xs
-    → r ≡ elem (get_or xs j d) (take (length xs - (j + 1)) (drop (j + 1) xs))
-    → distinct (drop j xs) ≡ not r && distinct (drop (j + 1) xs)
-distinct-next xs j d r h e =
-    rw (e, take_all (length xs - (j + 1)) (drop (j + 1) xs) (simp length-drop (omega arith)), from_next xs d j h)
 
 module _ {A : Type 0} (xs : List A) (places : ℕ) (len : length xs ≡ places) (p : A → Bool) where
   pub all-next : (d : A) (j : ℕ) (r : Bool) → j < places → p (get_or xs j d) ≡ r

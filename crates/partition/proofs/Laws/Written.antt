@@ -2,18 +2,17 @@
 -- In order: what is written, a partition of a sound store, append, the end that moves, clear.
 -- Assumes nothing.
 use mathlib.Core.Path.{◌≡◌, refl, sym, ap, ◌∙◌}
-use mathlib.Core.Bool.{true, false, not, ◌||◌}
+use mathlib.Core.Bool.{true, not}
 use mathlib.Core.List.{List, [], ◌∷◌, ◌++◌}
 use Prim.Native.Nat.{ℕ, zero, suc, ◌+◌, ◌-◌, ◌*◌, ◌≤◌, ◌<◌}
 use native.Mathlib.Omega.{arith}
 use lib.ListN.{length, take, drop, get_or, set, length-append}
 use lib.Seq.{length-take-le, set_out, get_or-take, get_or-drop}
 use lib.Dec.{ltb, leb, eqb}
-use borrow.Author.Tests.{ltb-true, ltb-false, leb-true, leb-false, eqb-true, lt-ltb, le-ltb, le-leb, eq-eqb}
+use borrow.Author.Tests.{ltb-true, leb-true, eqb-true, lt-ltb, le-ltb, le-leb, eq-eqb}
 use Rattle.lists.specs.Lists.{part, over}
 use Rattle.lists.proofs.Laws.All.{All-all_of, All_get_d}
-use Rattle.lists.proofs.Laws.Bools.{split, split-eq, same_test, and_left, and_right, or-false-left}
-use Rattle.lists.proofs.Laws.Bools.{or-false_right}
+use Rattle.lists.proofs.Laws.Bools.{split, split-eq, same_test, and_left, and_right}
 use Rattle.lists.proofs.Laws.Over.{over-one, over-behind}
 use Rattle.lists.proofs.Laws.Parts.{length_part, over-part, take_part}
 use Rattle.rules.specs.Limits.{partitions_max, areas_max, rows_max, entries_max}
@@ -21,7 +20,6 @@ use Rattle.rules.specs.Span.{Span, entries_of, words_of}
 use Rattle.rules.specs.Append.{delete_span, extended, appended, cleared}
 use Rattle.rules.specs.Store.{state_of, Store, manager_of, partition_at, spans_at, laid, laid_in_place}
 use Rattle.rules.specs.declared.Entry.{Entry}
-use Rattle.rules.specs.declared.Partition.{Partition}
 use Rattle.laws.proofs.Laws.Span.{length-entries_of}
 use Rattle.laws.proofs.Laws.Append.{words-appended, words-cleared, length-cleared}
 use Rattle.rules.specs.WellFormed.{entry_ok}
@@ -29,13 +27,15 @@ use Rattle.laws.proofs.Laws.SpansTest.{entries-ok}
 use Rattle.laws.proofs.Laws.WellFormed.{StoreOk}
 use Rattle.lent.specs.Entries.{none, moved_end}
 use Rattle.partition.specs.Rows.{put_rows}
-use Rattle.partition.specs.Append.{in_range, full_if, stays, grows, last_of, kept_in, append_at, append_plan}
+use Rattle.std.specs.Prelude.{cond, Ok, Err}
+use Rattle.partition.specs.declared.Full.TheVariants.{Rows, Entries}
+use Rattle.partition.specs.Append.{in_range, stays, grows, last_of, kept_in, append_at, append_plan}
 use Rattle.partition.specs.Append.{clear_plan}
 use Rattle.partition.specs.Append.{placed, written_by}
 use Rattle.partition.specs.declared.Plan.{Plan}
 use Rattle.partition.proofs.Laws.Rows.{put_rows-fits, put_rows-none}
-use Rattle.partition.proofs.Laws.Plan.{Within, in_range-within, append_at-fits, append_plan-none}
-use Rattle.partition.proofs.Laws.Plan.{append_plan-kept, clear_plan-full, clear_plan-fits}
+use Rattle.partition.proofs.Laws.Plan.{Within, in_range-within, append_plan-none}
+use Rattle.partition.proofs.Laws.Plan.{append_plan-kept, clear_plan-within}
 use Rattle.partition.proofs.Laws.Append.{kept_of, rows_to, entries-extended, kept-le, kept_in-is}
 
 -- ---- what is written
@@ -83,7 +83,7 @@ module _ (st : Store) (ok : StoreOk st) (p : ℕ) (h : p < partitions_max) where
   rows_inside = let w = in-range in let a = w.area in let n = w.rows in let l = ok.rows-length in omega arith
 
   -- its own spans, and nothing put
-  stays-written : Written p (spans_at p st) (stays (full_if false false) (partition_at p st)) [] st
+  stays-written : Written p (spans_at p st) (stays (partition_at p st)) [] st
   stays-written = let k = ok.partition p h in let q = partition_at p st in record {
     entries = ap (λ es. over (entries_max * q.area) es st.entries) k.entries-are
         ∙ over-part (entries_max * q.area) q.entries st.entries entries-inside
@@ -96,12 +96,6 @@ module _ (st : Store) (ok : StoreOk st) (p : ℕ) (h : p < partitions_max) where
   }
 
 -- ---- append
-
-append_at-full : (n : ℕ) (q : Partition) (i k : ℕ)
-    → (append_at n q i k).full ≡ full_if (ltb (rows_max - q.rows) k) (leb entries_max n)
-unfolding append_at
-append_at-full n q i k = let a = ltb (rows_max - q.rows) k in let b = leb entries_max n in
-    split (a || b) (λ t. rw t) (λ f. rw (or-false-left a b f, or-false_right a b f))
 
 -- more than an area has room for, each way
 one_too_many : (n m : ℕ) → m ≡ n + 1 → leb entries_max n ≡ ltb entries_max m
@@ -135,22 +129,26 @@ module _ (st : Store) (ok : StoreOk st) (p : ℕ) (h : p < partitions_max) (i : 
       sym (length-entries_of 0 (extended i ws ss))
       ∙ (ap length (entries-extended 0 i ws ss) ∙ simp length-append (omega arith))
 
-  -- where there is no room: 01's 8 and 9
-  pub append-full : (batch : List ℕ) → (append_plan last (partition_at p st) i (length batch)).full
-      ≡ full_if (ltb (rows_max - (partition_at p st).rows) (length batch))
-      (ltb entries_max (length (appended i batch (spans_at p st))))
-  unfolding appended
-  append-full [] = let q = partition_at p st in let k = ok.partition p h in let g = k.spans-ok.entries_fit in
+  -- what is written where there is room
+  abbrev pub append_of : List ℕ → Plan
+  append_of [] = stays (partition_at p st)
+  append_of (w ∷ ws) = grown_by (suc (length ws))
+
+  -- where there is none: 01's 8 and 9
+  pub append-decided : (batch : List ℕ) → append_plan last (partition_at p st) i (length batch)
+      ≡ cond (ltb (rows_max - (partition_at p st).rows) (length batch)) (Err Rows)
+      (cond (ltb entries_max (length (appended i batch (spans_at p st)))) (Err Entries) (Ok (append_of batch)))
+  unfolding appended append_at
+  append-decided [] = let q = partition_at p st in let k = ok.partition p h in let g = k.spans-ok.entries_fit in
       rw (
         append_plan-none last q i 0 (tests st ok p h) refl,
         le-ltb (rows_max - q.rows) 0 (omega arith),
         le-ltb entries_max (length (spans_at p st)) g,
       )
-  append-full (w ∷ ws) = let q = partition_at p st in let k = suc (length ws) in
+  append-decided (w ∷ ws) = let q = partition_at p st in let k = suc (length ws) in
       rw (
         append_plan-kept last q i k (tests st ok p h) (λ e. omega arith),
         kept-is,
-        append_at-full kept q i k,
         one_too_many kept (length (extended i (w ∷ ws) (spans_at p st))) (length-extended (w ∷ ws)),
       )
 
@@ -170,18 +168,6 @@ module _ (st : Store) (ok : StoreOk st) (p : ℕ) (h : p < partitions_max) (i : 
       ∙ (over-behind b kept (rows_to i (q.rows + length ws) ∷ []) st.entries (omega arith)
       ∙ over-one (b + kept) (rows_to i (q.rows + length ws)) st.entries (omega arith))))
 
-  -- a plan that is not full is the plan of one entry and the batch
-  append-placed : (k : ℕ) → (k ≡ 0 → ⊥) → (append_plan last (partition_at p st) i k).full ≡ full_if false false
-      → (k ≤ rows_max - (partition_at p st).rows) × (kept < entries_max)
-      × (append_plan last (partition_at p st) i k ≡ grown_by k)
-  append-placed k some full = let q = partition_at p st in
-      let e : append_plan last q i k ≡ append_at kept q i k =
-      rw (append_plan-kept last q i k (tests st ok p h) some, kept-is) in
-      let f = sym (append_at-full kept q i k) ∙ (ap (λ x. x.full) (sym e) ∙ full) in
-      let r = ltb-false (rows_max - q.rows) k (ap (λ x. x.rows) f) in
-      let n = leb-false entries_max kept (ap (λ x. x.entries) f) in
-      (r, n, e ∙ append_at-fits kept q i k r n)
-
   extended-written : (ws : List ℕ) → length ws ≤ rows_max - (partition_at p st).rows → kept < entries_max
       → words_of (extended i ws (spans_at p st)) ≡ words_of (spans_at p st) ++ ws
       → Written p (extended i ws (spans_at p st)) (grown_by (length ws)) ws st
@@ -195,22 +181,19 @@ module _ (st : Store) (ok : StoreOk st) (p : ℕ) (h : p < partitions_max) (i : 
         entry-count = length-extended ws;
       }
 
-  pub append-written : (batch : List ℕ)
-      → (append_plan last (partition_at p st) i (length batch)).full ≡ full_if false false
-      → Written p (appended i batch (spans_at p st)) (append_plan last (partition_at p st) i (length batch))
-      batch st
+  pub append-written : (batch : List ℕ) → length batch ≤ rows_max - (partition_at p st).rows
+      → length (appended i batch (spans_at p st)) ≤ entries_max
+      → Written p (appended i batch (spans_at p st)) (append_of batch) batch st
   unfolding appended
-  append-written [] full =
-      rw (append_plan-none last (partition_at p st) i 0 (tests st ok p h) refl) (stays-written st ok p h)
-  append-written (w ∷ ws) full = let g = append-placed (suc (length ws)) (λ e. omega arith) full in
-      rw g.2 (extended-written (w ∷ ws) g.0 g.1 (words-appended i (w ∷ ws) (spans_at p st)))
+  append-written [] r n = stays-written st ok p h
+  append-written (w ∷ ws) r n = let l = length-extended (w ∷ ws) in
+      extended-written (w ∷ ws) r (omega arith) (words-appended i (w ∷ ws) (spans_at p st))
 
-  -- an append that is not full
-  pub append-laid : (batch : List ℕ)
-      → (append_plan last (partition_at p st) i (length batch)).full ≡ full_if false false
-      → laid_in_place p (appended i batch (spans_at p st)) st
-      ≡ written_by p (append_plan last (partition_at p st) i (length batch)) batch st
-  append-laid batch full = written-laid p (appended i batch (spans_at p st)) _ batch st (append-written batch full)
+  -- an append that there is room for
+  pub append-laid : (batch : List ℕ) → length batch ≤ rows_max - (partition_at p st).rows
+      → length (appended i batch (spans_at p st)) ≤ entries_max
+      → laid_in_place p (appended i batch (spans_at p st)) st ≡ written_by p (append_of batch) batch st
+  append-laid batch r n = written-laid p (appended i batch (spans_at p st)) _ batch st (append-written batch r n)
 
   -- ---- where the count of entries stays, the end of the last one moves
 
@@ -234,17 +217,13 @@ module _ (st : Store) (ok : StoreOk st) (p : ℕ) (h : p < partitions_max) (i : 
       split (grows i last) (λ t. t)
       (λ f. absurd (let z = rw (lt-ltb 0 q.entries (omega arith), f) at k in omega arith))
 
-  pub append_moves : (batch : List ℕ)
-      → (append_plan last (partition_at p st) i (length batch)).full ≡ full_if false false
-      → (append_plan last (partition_at p st) i (length batch)).entries ≡ (partition_at p st).entries
-      → let plan = append_plan last (partition_at p st) i (length batch) in
-      moved_end st.entries plan.index plan.entry.end ≡ set st.entries plan.index plan.entry
-  append_moves [] full same = let n = ok.entries-length in let es = st.entries in
-      rw (append_plan-none last (partition_at p st) i 0 (tests st ok p h) refl)
-      (set_out es 576 _ (omega arith) ∙ sym (set_out es 576 _ (omega arith)))
-  append_moves (w ∷ ws) full same = let g = append-placed (suc (length ws)) (λ e. omega arith) full in
-      let q = partition_at p st in
-      let e : kept + 1 ≡ q.entries = sym (ap (λ x. x.entries) g.2) ∙ same in
+  pub append_moves : (batch : List ℕ) → (append_of batch).entries ≡ (partition_at p st).entries
+      → moved_end st.entries (append_of batch).index (append_of batch).entry.end
+      ≡ set st.entries (append_of batch).index (append_of batch).entry
+  append_moves [] same = let n = ok.entries-length in let es = st.entries in
+      set_out es 576 _ (omega arith) ∙ sym (set_out es 576 _ (omega arith))
+  append_moves (w ∷ ws) same = let q = partition_at p st in
+      let e : kept + 1 ≡ q.entries = same in
       let t = last-grows e in
       let k : kept ≡ q.entries - 1 = omega arith in
       let m = last-mark (q.entries - 1) (omega arith) in
@@ -252,7 +231,7 @@ module _ (st : Store) (ok : StoreOk st) (p : ℕ) (h : p < partitions_max) (i : 
       let z : last.mark ≡ 0 = split-eq last.mark 1
       (λ y. absurd (let u = rw (eq-eqb last.mark 1 y) at t in let v : ◌≡◌ {A = ℕ} 0 1 = cc in omega arith))
       (λ n. one-or-none last.mark m n) in
-      rw (g.2, k) (λ y. set st.entries (entries_max * q.area + (q.entries - 1))
+      rw k (λ y. set st.entries (entries_max * q.area + (q.entries - 1))
       (record { epoch = o y; end = q.rows + suc (length ws); mark = z y }))
     where
       one-or-none : (n : ℕ) → n ≤ 1 → (n ≡ 1 → ⊥) → n ≡ 0
@@ -271,11 +250,15 @@ entries_of-append m (s ∷ ss) ts =
     rw (entries_of-append (m + length s.words) ss ts, e)
 
 module _ (st : Store) (ok : StoreOk st) (p : ℕ) (h : p < partitions_max) (i : ℕ) where
-  -- where there is no room: 01's 9
-  pub clear-full : (clear_plan (partition_at p st) i).full ≡ full_if false (leb entries_max (partition_at p st).entries)
-  clear-full = let q = partition_at p st in split (leb entries_max q.entries)
-      (λ t. rw (clear_plan-full q i (tests st ok p h) (leb-true entries_max q.entries t), t))
-      (λ f. rw (clear_plan-fits q i (tests st ok p h) (leb-false entries_max q.entries f), f))
+  -- what is written where there is room
+  abbrev pub clear_of : Plan
+  clear_of = let q = partition_at p st in
+      placed q.entries q (rows_max * areas_max) (record { epoch = i; end = q.rows; mark = 1 })
+
+  -- where there is none: 01's 9
+  pub clear-decided : clear_plan (partition_at p st) i
+      ≡ cond (leb entries_max (partition_at p st).entries) (Err Entries) (Ok clear_of)
+  clear-decided = clear_plan-within (partition_at p st) i (tests st ok p h)
 
   -- one entry goes behind the partition's entries
   clear-entries : (partition_at p st).entries < entries_max
@@ -290,18 +273,17 @@ module _ (st : Store) (ok : StoreOk st) (p : ℕ) (h : p < partitions_max) (i : 
       (over-behind b q.entries (record { epoch = i; end = q.rows; mark = 1 } ∷ []) st.entries (omega arith)
       ∙ over-one (b + q.entries) _ st.entries (omega arith))
 
-  pub clear-written : (clear_plan (partition_at p st) i).full ≡ full_if false false
-      → Written p (cleared i (spans_at p st)) (clear_plan (partition_at p st) i) [] st
-  clear-written full = let q = partition_at p st in let k = ok.partition p h in let c = k.entry-count in
-      let f = leb-false entries_max q.entries (ap (λ x. x.entries) (sym clear-full ∙ full)) in
-      rw (clear_plan-fits q i (tests st ok p h) f) (record {
+  pub clear-written : (partition_at p st).entries < entries_max
+      → Written p (cleared i (spans_at p st)) clear_of [] st
+  clear-written f = let q = partition_at p st in let k = ok.partition p h in let c = k.entry-count in
+      record {
         entries = clear-entries f;
         rows = ap (λ ws. over (rows_max * q.area) ws st.rows) (words-cleared i (spans_at p st))
             ∙ (stays-written st ok p h).rows;
         row_count = ap length (words-cleared i (spans_at p st)) ∙ sym k.row_count;
         entry-count = length-cleared i (spans_at p st) ∙ omega arith;
-      })
+      }
 
-  pub clear-laid : (clear_plan (partition_at p st) i).full ≡ full_if false false
-      → laid_in_place p (cleared i (spans_at p st)) st ≡ written_by p (clear_plan (partition_at p st) i) [] st
-  clear-laid full = written-laid p (cleared i (spans_at p st)) _ [] st (clear-written full)
+  pub clear-laid : (partition_at p st).entries < entries_max
+      → laid_in_place p (cleared i (spans_at p st)) st ≡ written_by p clear_of [] st
+  clear-laid f = written-laid p (cleared i (spans_at p st)) _ [] st (clear-written f)

@@ -5,13 +5,10 @@
 use mathlib.Core.Path.{◌≡◌, refl, sym, ◌∙◌}
 use mathlib.Core.Bool.{Bool, true, false, not, ◌&&◌, ◌||◌, and-false, and-true, and_assoc}
 use mathlib.Core.List.{List, [], ◌∷◌}
-use Prim.Native.Nat.{ℕ, ◌*◌, ◌≤◌}
-use native.Mathlib.Omega.{arith}
-use lib.ListN.{length, take, length-append}
+use Prim.Native.Nat.{ℕ, ◌*◌}
 use lib.Dec.{ltb, leb, eqb}
 use Rattle.lists.specs.Lists.{all_of, part}
-use Rattle.lists.proofs.Laws.Parts.{take-pad}
-use Rattle.rules.specs.Limits.{writers_max, rows_max, entries_max}
+use Rattle.rules.specs.Limits.{rows_max, entries_max}
 use Rattle.rules.specs.Manager.{records_of}
 use Rattle.rules.specs.Store.{Store, manager_of}
 use Rattle.rules.specs.WellFormed.{manager_ok, areas_ok, epoch_ok, ends_ok, alike, apart, partition_ok, lengths_ok}
@@ -22,10 +19,8 @@ use Rattle.rules.specs.declared.Entry.{Entry}
 use Rattle.rules.specs.Manager.{Manager}
 use Rattle.rules.specs.declared.Partition.{Partition}
 use Rattle.rules.specs.declared.Partitions.{Partitions}
-use Rattle.rules.specs.declared.RwTxns.{RwTxns}
 use Rattle.partition_sound.specs.Sound.{epochs_of, epoch_ok_by, entry_ok_by, partition_ok_by, follows, before_first}
-use Rattle.partition_sound.specs.Sound.{chained, epochs_with, partitions_ok}
-use Rattle.partition_sound.specs.declared.Epochs.{Epochs}
+use Rattle.partition_sound.specs.Sound.{chained, partitions_ok}
 
 -- ---- one pass
 
@@ -70,14 +65,6 @@ module _ (c : Clock) (js : List ℕ) (entries : List Entry) (q : Partition) wher
       rw (t, chained-is c js q.rows before_first es, apart-first es)
 
 -- ---- all partitions
-
--- the epochs that were listed, as a list again
-module _ (ts : RwTxns) (es : Epochs) (e : es ≡ epochs_with (epochs_of ts)) where
-  pub epochs_listed : take es.count es.at ≡ epochs_of ts
-  epochs_listed = rw e (take-pad writers_max 0 (epochs_of ts))
-
-  pub epochs-fit : es.count ≤ length es.at
-  epochs-fit = rw e (simp length-append (omega arith))
 
 module _ (m : Manager) (entries : List Entry) (ps : Partitions) where
   pub partitions_ok_shared : areas_ok ps ≡ false → partitions_ok m entries ps ≡ false

@@ -1,6 +1,6 @@
 -- Of a sound store the plan of an accepted save holds what a read-only transaction (01: page) is shown, and writes the
 -- checkpoint (02: round) of it. Definitions: specs/Save.antt; rules/specs/Recovery.antt.
--- In order: a refusal; where the partitions' rows stand; plan-size, plan_writes.
+-- In order: where the partitions' rows stand; plan-size, plan_writes.
 -- Elsewhere: it is what step leaves (recovery/proofs/Laws/Save.antt).
 -- Assumes nothing.
 use mathlib.Core.Path.{◌≡◌, refl, ◌∙◌, ap}
@@ -17,22 +17,17 @@ use Rattle.rules.specs.Store.{Store, partition_at, partition_numbers}
 use Rattle.rules.specs.Recovery.{shown_at, checkpoint_at}
 use Rattle.rules.specs.Step.{saved_over}
 use Rattle.rules.specs.declared.Partitions.{Partitions}
-use Rattle.rules.specs.declared.Refusal.{Refusal}
 use Rattle.laws.proofs.Laws.Checkpoint.{bodies_of, length-encoded}
 use Rattle.laws.proofs.Laws.WellFormed.{StoreOk}
 use Rattle.area.specs.Area.{base_of}
 use Rattle.area.specs.Load.{partition_in}
 use Rattle.partition_sound.specs.declared.Verdict.{Verdict}
 use Rattle.plan_save.specs.Runs.{runs_in, runs_of, words_at}
-use Rattle.plan_save.specs.Save.{bases_of, refused_save, size_of_runs, accepted_save, save_written}
+use Rattle.plan_save.specs.Save.{bases_of, size_of_runs, accepted_save, save_written}
 use Rattle.laws.proofs.Laws.Each.{each_at}
 use Rattle.plan_save.proofs.Laws.Joined.{run_rows}
 use Rattle.plan_save.proofs.Laws.Shown.{WholeShown, runs-ok, rows_at, counts-are}
 use Rattle.plan_save.proofs.Laws.Written.{written}
-
-pub refused_writes : (r : Refusal) (rows out : List ℕ) → save_written (refused_save r) rows out ≡ out
-unfolding save_written
-refused_writes r rows out = refl
 
 gather-gather : {A B C : Type 0} (f : B → List C) (g : A → List B) (xs : List A)
     → gather f (gather g xs) ≡ gather (λ x. gather f (g x)) xs

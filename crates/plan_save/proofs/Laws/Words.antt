@@ -46,7 +46,10 @@ pub runs_none : runs_in [] ≡ []
 unfolding runs_in
 runs_none = refl
 
--- ---- how many rows the partitions below p have
+-- ---- how many rows partition p has, and how many those below it
+
+abbrev pub size_at : List ℕ → ℕ → ℕ
+size_at ws p = size_of (runs_in (words_at ws p))
 
 unfoldable pub size_below : List ℕ → ℕ → ℕ
 size_below ws zero = 0

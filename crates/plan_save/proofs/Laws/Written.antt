@@ -153,9 +153,8 @@ module _ (w : Save) (rows out : List ℕ) (c : Checkpoint) (own : ℕ → List �
   written = let r = room-for in let h = length-header c eight in
       let l = length_over 0 (header_of c) out (omega arith) in
       let x : Put = put_to header_size (over 0 (header_of c) out) in
-      rw (
-        ne_eqb w.size 0 (λ e. omega arith),
-        header-put,
+      ap (λ o. (lots_put w.bases w.at rows (put_to header_size o) partitions_max).out) header-put
+      ∙ rw (
         all-put w.bases w.at rows own x there lent well holds (omega arith),
         bodies,
         encoded-parts c,

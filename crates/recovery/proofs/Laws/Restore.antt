@@ -1,17 +1,17 @@
 -- What recovery decides by value is what step leaves. Definitions: specs/Restore.antt.
--- In order: a recovery carried out, a refusal, the spans of a partition's rows, the rows and the entry of partition p,
+-- In order: what recovery leaves, a refusal, the spans of a partition's rows, the rows and the entry of partition p,
 -- the partitions below n, the totals, recovery.
 -- Assumes nothing.
-use mathlib.Core.Path.{◌≡◌, refl, sym, ap, ◌∙◌}
-use mathlib.Core.Bool.{Bool, true, false, ◌&&◌, cond}
+use mathlib.Core.Path.{◌≡◌, refl, sym, ap, subst, ◌∙◌}
+use mathlib.Core.Bool.{true, false, cond}
 use mathlib.Core.List.{List, [], ◌∷◌, append-nil}
 use Prim.Native.Nat.{ℕ, zero, suc, ◌+◌, ◌*◌, ◌≤◌, ◌<◌}
 use native.Mathlib.Numerals.{add-one}
 use native.Mathlib.Omega.{arith}
 use lib.ListN.{length, get_or, set, take, drop, replicate, length-set}
-use lib.Seq.{drop-drop, set_out, get_or-set_same, get_or-set_other}
+use lib.Seq.{drop-drop, get_or-set_same, get_or-set_other}
 use lib.Dec.{leb, eqb}
-use borrow.Author.Tests.{eqb-true, leb-true, le-leb, lt-leb, ne_eqb}
+use borrow.Author.Tests.{eqb-true, leb-true, le-leb, ne_eqb}
 use Rattle.lists.specs.Lists.{over}
 use Rattle.lists.proofs.Laws.Bools.{split, split-eq, and_left, and_right}
 use Rattle.lists.proofs.Laws.Over.{over-nil, over-one}
@@ -22,7 +22,8 @@ use Rattle.rules.specs.Manager.{Manager}
 use Rattle.rules.specs.Begin.{created_manager}
 use Rattle.rules.specs.Span.{entries_of, words_of}
 use Rattle.rules.specs.Weight.{weight, weight_by, total}
-use Rattle.rules.specs.Checkpoint.{Checkpoint, numbers_in, body_size, saved_in}
+use Rattle.rules.specs.Checkpoint.{Checkpoint, numbers_in, body_size, saved_in, is_corrupt, checkpoint_of}
+use Rattle.std.specs.Prelude.{Result, Ok, Err, IfOk, IfErr}
 use Rattle.rules.specs.Store.{Store, manager_of, no_partition, spans_at, state_of, with_totals, total_at, totals_of}
 use Rattle.rules.specs.Store.{refreshed}
 use Rattle.rules.specs.Store.{fresh_partitions, created_store, laid, laid_in_place}
@@ -41,64 +42,30 @@ use Rattle.laws.proofs.Laws.Checkpoint.{CheckpointOk, saved-ok}
 use Rattle.laws.proofs.Laws.Recovery.{recovered-manager, recovered-spans}
 use Rattle.laws.proofs.Laws.Totals.{totals-by, spans-refreshed}
 use Rattle.laws.proofs.Recovers.{shown-recovered}
-use Rattle.lent.specs.Entries.{none}
-use Rattle.lent.specs.Shapes.{saved}
-use Rattle.lent.proofs.Saved.{saved-length, saved-none}
 use Rattle.partition_sound.specs.Asked.{lengths_are}
-use Rattle.checkpoint.specs.Header.{header_in, checkpoint_by}
-use Rattle.checkpoint.specs.Rows.{has_room, rows_read, weight_read}
+use Rattle.checkpoint.specs.Header.{header_in, found_in, checkpoint_by}
+use Rattle.checkpoint.specs.Rows.{rows_read, weight_read}
 use Rattle.checkpoint.specs.declared.Header.{Header}
-use Rattle.checkpoint.proofs.Laws.Header.{Whole, header-whole, header-corrupt, header_checkpoint}
+use Rattle.checkpoint.proofs.Laws.Header.{Whole, header-whole, header-errs, header-found}
 use Rattle.store.specs.Kept.{store_of, Left}
-use Rattle.recovery.specs.Restore.{refused_restore, body_of, bodies_for, weights_for, restored_from, restored_by}
-use Rattle.recovery.specs.Restore.{new_of}
-use Rattle.recovery.specs.Restore.{place_of, rows_restored, entries_for, partition_for, partitions_for, done_restore}
+use Rattle.recovery.specs.Restore.{body_of, bodies_for, weights_for, restored_from, restored_in, restored_by}
+use Rattle.recovery.specs.Restore.{entry_of, entry_put, entries_restored, rows_restored, entries_for, partition_for}
+use Rattle.recovery.specs.Restore.{partitions_for, books_restored}
 use Rattle.recovery.specs.declared.Restored.{Restored}
 use Rattle.recovery.proofs.Laws.Bodies.{body-next, body_end, rows_at}
 use Rattle.laws.proofs.Laws.Each.{each_at}
 
--- ---- a recovery carried out
+-- ---- what recovery leaves, by what was decided
 
-abbrev Carried : State → List Entry → List ℕ → List ℕ → Outcome → Restored → Type 0
-Carried s es rs file out w =
-    Left out (done_restore s w) (rows_restored file w partitions_max rs) (saved place_of new_of es w partitions_max)
+abbrev pub Leaves : State → List Entry → List ℕ → List ℕ → Outcome → Result Restored Refusal → Type 0
+Leaves s es rs file out (Ok w) =
+    Left out (record { state = books_restored w; answer = Recovered }) (rows_restored file w partitions_max rs)
+    (entries_restored w partitions_max es)
+Leaves s es rs file out (Err why) = Left out (record { state = s; answer = Refused why }) rs es
 
--- ---- a refusal writes nothing
-
-zero-at : (n i : ℕ) → ◌≡◌ {A = ℕ} (get_or (replicate n 0) i 0) 0
-zero-at zero i = refl
-zero-at (suc n) zero = refl
-zero-at (suc n) (suc i) = zero-at n i
-
-cond_same : {A : Type 0} (b : Bool) {x y : A} → x ≡ y → cond b x y ≡ y
-cond_same true e = e
-cond_same false e = refl
-
-read_none : (at from : ℕ) (file rows : List ℕ) → rows_read at from 0 file rows ≡ rows
-unfolding rows_read numbers_in
-read_none at from file rows = cond_same (has_room at 0 rows && has_room from (8 * 0) file) (over-nil at rows)
-
-module _ (r : Refusal) (es : List Entry) where
-  abbrev no : Restored
-  no = refused_restore (length es) r
-
-  rows_none : (file rows : List ℕ) (n : ℕ) → rows_restored file no n rows ≡ rows
-  unfolding rows_restored
-  rows_none file rows zero = refl
-  rows_none file rows (suc n) = rw (zero-at partitions_max n, rows_none file rows n) (read_none _ _ file rows)
-
-  past-none : (i : ℕ) → length es ≤ place_of no i
-  unfolding place_of
-  past-none i = split (leb partitions_max i) (λ t. rw t (omega arith))
-      (λ f. rw (f, zero-at partitions_max i) (omega arith))
-
-  refused-left : (s : State) (rs file : List ℕ) (next : Store)
-      → Carried s es rs file (outcome (Refused r) next (store_of s rs es)) no
-  refused-left s rs file next = rw (refused r) (
-    refl,
-    λ j. store_of s (rows_none file rs partitions_max j)
-        (saved-none place_of new_of es no past-none partitions_max j),
-  )
+refused-left : (r : Refusal) (s : State) (es : List Entry) (rs file : List ℕ) (next : Store)
+    → Leaves s es rs file (outcome (Refused r) next (store_of s rs es)) (Err r)
+refused-left r s es rs file next = rw (refused r) (refl, refl)
 
 -- ---- the spans of rows: one, of epoch e, where there are rows
 
@@ -175,7 +142,7 @@ module _ (file : List ℕ) (h : Header) (W : Whole last_epoch file h) where
   module _ (s : State) (es : List Entry) (rs : List ℕ) (le : length es ≡ entries_max * areas_max)
       (lr : length rs ≡ rows_max * areas_max) where
     abbrev w : Restored
-    w = restored_from file (length es) h
+    w = restored_from file h
 
     abbrev e : ℕ
     e = h.epoch
@@ -193,13 +160,17 @@ module _ (file : List ℕ) (h : Header) (W : Whole last_epoch file h) where
 
     -- its entry, where it has rows
     entry_next : (p : ℕ) → p < partitions_max → (xs : List Entry) → length xs ≡ length es
-        → set xs (place_of w p) (get_or (new_of w) p none) ≡ over (entries_max * p) (one_entry e (count p)) xs
-    unfolding place_of
-    entry_next p l xs n =
-        rw (lt-leb partitions_max p l, each_at none (λ q. record { epoch = e; end = count q; mark = 0 }) p l)
-        (split (eqb (count p) 0)
-        (λ t. rw t (set_out xs (length es) _ (omega arith) ∙ sym (over-nil (entries_max * p) xs)))
-        (λ f. rw f (sym (over-one (entries_max * p) _ xs (omega arith)))))
+        → entry_put w p xs ≡ over (entries_max * p) (one_entry e (count p)) xs
+    entry_next p l xs n = split (eqb (count p) 0)
+        (λ t. rw t (sym (over-nil (entries_max * p) xs)))
+        (λ f. rw f (sym (over-one (entries_max * p) _ xs (omega arith))))
+
+    entries-length : (n : ℕ) → length (entries_restored w n es) ≡ length es
+    unfolding entries_restored
+    entries-length zero = refl
+    entries-length (suc n) = split (eqb (count n) 0)
+        (λ t. rw t (entries-length n))
+        (λ f. rw f (length-set (entries_restored w n es) (entries_max * n) (entry_of w n) ∙ entries-length n))
 
     -- ---- the partitions below n
 
@@ -223,23 +194,23 @@ module _ (file : List ℕ) (h : Header) (W : Whole last_epoch file h) where
     made_new at = state_of (created_manager (suc e)) (record { at = at; spare = 8 }) (replicate partitions_max 0)
 
     abbrev below_store : ℕ → Store
-    below_store n = store_of (made_new (at_below n)) (rows_restored file w n rs) (saved place_of new_of es w n)
+    below_store n = store_of (made_new (at_below n)) (rows_restored file w n rs) (entries_restored w n es)
 
     laid_next : (n : ℕ) → n < partitions_max
         → laid_in_place n (recovered_spans e (ws n)) (below_store n) ≡ below_store (suc n)
-    unfolding laid_in_place laid rows_restored saved
+    unfolding laid_in_place laid rows_restored entries_restored
     laid_next n l =
-        let rows = rows_restored file w n rs in let xs = saved place_of new_of es w n in let z = ws-count n in
+        let rows = rows_restored file w n rs in let xs = entries_restored w n es in let z = ws-count n in
         let area = at-area n n l in let words = words-recovered e (ws n) in
         let r = ap length words ∙ z in let k = count-recovered e (ws n) ∙ ap entries_for z in
         let entry = entry-recovered e (ws n) ∙ ap (one_entry e) z in
         (λ j. store_of (made_new (set (at_below n) n (record { area = area j; rows = r j; entries = k j })))
         (over (rows_max * area j) (words j) rows) (over (entries_max * area j) (entry j) xs))
         ∙ (λ j. store_of (made_new (at_below (suc n))) (sym (rows_next n l rows (rows-length n (omega arith))) j)
-        (sym (entry_next n l xs (saved-length place_of new_of es w n)) j))
+        (sym (entry_next n l xs (entries-length n)) j))
 
     below : (n : ℕ) → n ≤ partitions_max → recovered_below c n st ≡ below_store n
-    unfolding recovered_below created_store rows_restored saved
+    unfolding recovered_below created_store rows_restored entries_restored
     below zero l = refl
     below (suc n) l = ap (laid_in_place n (recovered_spans e (ws n))) (below n (omega arith))
         ∙ laid_next n (omega arith)
@@ -266,32 +237,59 @@ module _ (file : List ℕ) (h : Header) (W : Whole last_epoch file h) where
 
       whole : refreshed last ≡ store_of
           (state_of (created_manager (suc e)) (partitions_for h.counts) (weights_for file h.counts (bodies_for h)))
-          (rows_restored file w partitions_max rs) (saved place_of new_of es w partitions_max)
+          (rows_restored file w partitions_max rs) (entries_restored w partitions_max es)
       whole = ap (λ (x : Store). with_totals (totals_of last) x) (below partitions_max (omega arith))
           ∙ ap (λ (ts : List ℕ). with_totals ts (below_store partitions_max)) totals-are
 
-      restored-left : Carried s es rs file (outcome Recovered (recovered_store c st) st) w
+      restored-left : Leaves s es rs file (outcome Recovered (recovered_store c st) st) (Ok w)
       unfolding recovered_store
-      restored-left = let b : eqb (e + 1) 0 ≡ false = ne_eqb (e + 1) 0 (λ z. omega arith) in (
+      restored-left = (
         refl,
-        (λ j. store_of
-            (cond (b j) s (state_of (created_manager (add-one e j)) (partitions_for h.counts) w.totals))
-            (rows_restored file w partitions_max rs) (saved place_of new_of es w partitions_max)) ∙ sym whole,
+        (λ j. store_of (state_of (created_manager (add-one e j)) (partitions_for h.counts) w.totals)
+            (rows_restored file w partitions_max rs) (entries_restored w partitions_max es)) ∙ sym whole,
       )
 
 -- ---- recovery
 
-pub recover-left : (s : State) (es : List Entry) (rs file : List ℕ)
-    → Carried s es rs file (step (recover file) (store_of s rs es)) (restored_by file (length es) (length rs))
-unfolding step recover_answer restored_by lengths_ok lengths_are
-recover-left s es rs file = let st = store_of s rs es in let f = header_in last_epoch file in
-    let next = recovered_store (saved_in file) st in let a = eqb (length rs) (rows_max * areas_max) in
-    let b = eqb (length es) (entries_max * areas_max) in
-    split (a && b)
-    (λ t. let k = header_checkpoint last_epoch file in split f.corrupt
-    (λ u. rw (t, header-corrupt last_epoch file, u) (refused-left Corrupt es s rs file next))
-    (λ u. rw (t, header-corrupt last_epoch file, u, k)
-    (restored-left file f.header (header-whole last_epoch file) s es rs
+-- whatever header is found, where so much is lent as is to be
+by-header : (s : State) (es : List Entry) (rs file : List ℕ) (f : Result Header Refusal) → header_in last_epoch file ≡ f
+    → lengths_ok (store_of s rs es) ≡ true
+    → Leaves s es rs file (step (recover file) (store_of s rs es)) (restored_in file f)
+unfolding step recover_answer lengths_ok found_in
+by-header s es rs file (Ok h) e t = let st = store_of s rs es in
+    let a = eqb (length rs) (rows_max * areas_max) in let b = eqb (length es) (entries_max * areas_max) in
+    let is = header-found last_epoch file ∙ ap (found_in file) e in
+    let ok = ap is_corrupt is in let k = ap checkpoint_of is in
+    rw (t, ok, k)
+    (restored-left file h (subst (λ r. IfOk r (Whole last_epoch file)) e (header-whole last_epoch file)) s es rs
     (eqb-true (length es) (entries_max * areas_max) (and_right a b t))
-    (eqb-true (length rs) (rows_max * areas_max) (and_left a b t)) (rw k at (saved-ok file)) t)))
-    (λ u. rw u (refused-left Unsound es s rs file next))
+    (eqb-true (length rs) (rows_max * areas_max) (and_left a b t)) (rw k at (saved-ok file)) t)
+by-header s es rs file (Err why) e t = let st = store_of s rs es in
+    let is = header-found last_epoch file ∙ ap (found_in file) e in let no = ap is_corrupt is in
+    let w : why ≡ Corrupt = subst (λ r. IfErr r (λ x. x ≡ Corrupt)) e (header-errs last_epoch file) in
+    rw (t, no, w) (refused-left Corrupt s es rs file (recovered_store (saved_in file) st))
+
+too-short : (s : State) (es : List Entry) (rs file : List ℕ) → lengths_ok (store_of s rs es) ≡ false
+    → Leaves s es rs file (step (recover file) (store_of s rs es)) (Err Unsound)
+unfolding step recover_answer
+too-short s es rs file u = let st = store_of s rs es in
+    rw u (refused-left Unsound s es rs file (recovered_store (saved_in file) st))
+
+module _ (file : List ℕ) (n m : ℕ) where
+  pub restored-well : lengths_are n m ≡ true → restored_by file n m ≡ restored_in file (header_in last_epoch file)
+  unfolding restored_by
+  restored-well t = rw t
+
+  pub restored-short : lengths_are n m ≡ false → restored_by file n m ≡ Err Unsound
+  unfolding restored_by
+  restored-short u = rw u
+
+pub recover-left : (s : State) (es : List Entry) (rs file : List ℕ)
+    → Leaves s es rs file (step (recover file) (store_of s rs es)) (restored_by file (length es) (length rs))
+unfolding lengths_ok lengths_are
+recover-left s es rs file = let st = store_of s rs es in let f = header_in last_epoch file in
+    split (lengths_ok st)
+    (λ t. subst (Leaves s es rs file (step (recover file) st)) (sym (restored-well file (length es) (length rs) t))
+    (by-header s es rs file f refl t))
+    (λ u. subst (Leaves s es rs file (step (recover file) st)) (sym (restored-short file (length es) (length rs) u))
+    (too-short s es rs file u))

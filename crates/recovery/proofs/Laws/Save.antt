@@ -1,5 +1,5 @@
 -- What a save decides by value is what step leaves. Definitions: plan_save/specs/Save.antt.
--- In order: a save carried out, what is found before it, a refusal, save-left.
+-- In order: what a save leaves, what is found before it, a refusal, save-left.
 -- Elsewhere: what the plan of a sound store writes (plan_save/proofs/Laws/Planned.antt).
 -- Assumes nothing.
 use mathlib.Core.Path.{◌≡◌, refl, ap, subst, ◌∙◌}
@@ -10,6 +10,7 @@ use native.Mathlib.Omega.{arith}
 use lib.ListN.{length, get_or}
 use lib.Dec.{ltb, leb}
 use borrow.Author.Tests.{ltb-false, leb-true, le-ltb}
+use Rattle.std.specs.Prelude.{Result, Ok, Err}
 use Rattle.lists.proofs.Laws.All.{All_imp}
 use Rattle.lists.proofs.Laws.Bools.{split, and_left, and_right}
 use Rattle.rules.specs.Limits.{partitions_max}
@@ -32,16 +33,17 @@ use Rattle.partition_sound.specs.Rest.{low_of, rest_found}
 use Rattle.partition_sound.specs.declared.Verdict.{Verdict}
 use Rattle.partition_sound.proofs.Laws.Whole.{low-found, rest-whole}
 use Rattle.plan_save.specs.Runs.{runs_of}
-use Rattle.plan_save.specs.Save.{refused_save, size_of_runs, save_plan, save_written}
+use Rattle.plan_save.specs.Save.{size_of_runs, save_plan, save_written}
 use Rattle.plan_save.specs.declared.Save.{Save}
 use Rattle.plan_save.proofs.Laws.Shown.{WholeShown}
-use Rattle.plan_save.proofs.Laws.Planned.{refused_writes, plan-size, plan_writes}
+use Rattle.plan_save.proofs.Laws.Planned.{plan-size, plan_writes}
 use Rattle.store.specs.Kept.{store_of, Showed}
 use Rattle.store.proofs.Laws.Kept.{sound-is}
 
--- a save of the store st carried out by a plan, with this output lent
-abbrev pub Carried : List ℕ → Store → Outcome → Save → Type 0
-Carried lent st out w = Showed out w.answer (save_written w st.rows lent) st
+-- what a save of the store st leaves, by what was decided, with this output lent
+abbrev pub Leaves : List ℕ → Store → Outcome → Result Save Refusal → Type 0
+Leaves lent st out (Ok w) = Showed out (Saved w.size) (save_written w st.rows lent) st
+Leaves lent st out (Err why) = Showed out (Refused why) lent st
 
 -- what the test of the lots finds, where nothing lands
 abbrev found_in : State → List Entry → List ℕ → Verdict
@@ -59,11 +61,11 @@ whole-shown s n es rs e ok p h t =
     (entries_at p (store_of s rs es)) (rest-whole es rs a n ok p h (and_right (x && y) z t))
 
 refused-left : (r : Refusal) (next lent : List ℕ) (st : Store)
-    → Carried lent st (write_outcome (Refused r) next lent st) (refused_save r)
-refused-left r next lent st = rw (refused r) (refl, refused_writes r st.rows lent, refl)
+    → Leaves lent st (write_outcome (Refused r) next lent st) (Err r)
+refused-left r next lent st = rw (refused r) (refl, refl, refl)
 
 pub save-left : (s : State) → length s.partitions.at ≡ partitions_max → (es : List Entry) (rs lent : List ℕ) (e : ℕ)
-    → Carried lent (store_of s rs es) (step (save e lent) (store_of s rs es))
+    → Leaves lent (store_of s rs es) (step (save e lent) (store_of s rs es))
     (let v = found_in s es rs in save_plan s v.ok (runs_of es s.partitions v e).at (length lent) e)
 unfolding step save_answer save_plan
 save-left s n es rs lent e = let st = store_of s rs es in let v = found_in s es rs in

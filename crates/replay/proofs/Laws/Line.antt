@@ -21,8 +21,8 @@ use Rattle.laws.proofs.Laws.Step.{scan-or}
 use Rattle.session_text.specs.Grammar.{numbers_in, parsed, is_call}
 use Rattle.session_text.specs.Lines.{size_in, written_in}
 use Rattle.session_text.specs.Print.{printed, question}
-use Rattle.session_text.specs.declared.Parsed.{Parsed}
-use Rattle.session_text.specs.declared.Parsed.TheVariants.{Call as Is, Bad}
+use Rattle.std.specs.Prelude.{Option, None, Some}
+use Rattle.session_text.specs.declared.Call.{Call}
 use Rattle.store.specs.Kept.{store_of}
 use Rattle.rules.specs.declared.Kept.{Kept}
 use Rattle.dispatch.specs.Dispatch.{bytes_left, Did}
@@ -52,21 +52,27 @@ Said line numbers out st after size o v = (after ≡ after_line line st) × ((si
 -- ---- a line parsed, with room for every line
 
 module _ (line numbers out : List ℕ) (st : Store) (room-n : numbers_max ≤ length numbers)
-    (room_o : answer_max ≤ length out) (r : Parsed) (w : List ℕ)
-    (parses : r ≡ cond (leb (length (numbers_in line)) (length numbers)) (parsed line) Bad)
+    (room_o : answer_max ≤ length out) (r : Option Call) (w : List ℕ)
+    (parses : r ≡ cond (leb (length (numbers_in line)) (length numbers)) (parsed line) None)
     (writes : w ≡ cond (is_call r) (over 0 (numbers_in line) numbers) numbers) where
   is-line : parsed line ≡ r
   is-line = sym (parses ∙ room-parsed (length (numbers_in line)) (length numbers) (parsed line) (fit_line line) room-n)
 
   -- one that is none
-  pub line-bad : r ≡ Bad → (size : ℕ) (o : List ℕ) → size ≡ size_in question out → o ≡ written_in question out
+  pub line-bad : r ≡ None → (size : ℕ) (o : List ℕ) → size ≡ size_in question out → o ≡ written_in question out
       → Said line numbers out st st size o w
   unfolding after_line answer_to held_after
   line-bad is size o p q = let l = le-leb (length question) (length out) (omega arith) in
       rw (is-line ∙ is) (refl, (rw l at p, (rw l at q, rw is at writes)))
 
   -- one that is a call
-  module _ (c : Command) (k : ℕ) (is : r ≡ Is c k) where
+  module _ (p : Call) (is : r ≡ Some p) where
+    abbrev c : Command
+    c = p.command
+
+    abbrev k : ℕ
+    k = p.rows
+
     fit : (k ≡ length (numbers_in line) - 2) × (length (numbers_in line) ≤ numbers_max)
     fit = rw (is-line ∙ is) at (fit_line line)
 

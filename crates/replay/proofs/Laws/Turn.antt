@@ -20,8 +20,8 @@ use Rattle.rules.specs.declared.Entry.{Entry}
 use Rattle.rules.specs.declared.State.{State}
 use Rattle.session_text.specs.Grammar.{numbers_in, is_call}
 use Rattle.session_text.specs.Lines.{size_in, written_in, line_end}
-use Rattle.session_text.specs.declared.Parsed.{Parsed}
-use Rattle.session_text.specs.declared.Parsed.TheVariants.{Call as Is, Bad}
+use Rattle.std.specs.Prelude.{Option, None, Some}
+use Rattle.session_text.specs.declared.Call.{Call}
 use Rattle.store.specs.Kept.{store_of}
 use Rattle.rules.specs.declared.Kept.{Kept}
 use Rattle.dispatch.specs.Dispatch.{Did}
@@ -41,16 +41,16 @@ use Rattle.replay.proofs.Laws.Lines.{rest-made}
 
 module _ (line numbers out : List ℕ) (st : Store) (room-n : numbers_max ≤ length numbers)
     (room_o : answer_max ≤ length out) (k : Kept) (rows bytes : List ℕ) (entries : List Entry) where
-  said-by : (p : Parsed) (w : List ℕ) → p ≡ parsed_in line numbers
+  said-by : (p : Option Call) (w : List ℕ) → p ≡ parsed_in line numbers
       → w ≡ cond (is_call p) (over 0 (numbers_in line) numbers) numbers
       → Did (command_in p) (step (call_of (command_in p) (part 2 (rows_in p) w) bits) st) k rows entries bits bytes
       → let a = said_in p k bytes rows w in
       Said line numbers out st (store_of k.state rows entries) (size_in a out) (written_in a out)
       (over 0 (shown_of p k bytes rows w) w)
-  said-by (Is c n) w parses writes did = line-called line numbers out st room-n room_o (Is c n) w parses writes c n
+  said-by (Some c) w parses writes did = line-called line numbers out st room-n room_o (Some c) w parses writes c
       refl k rows bytes entries did _ _ _ refl refl refl
-  said-by Bad w parses writes did = rw (did.0.1 ∙ purge-none st, over-nil 0 w)
-      (line-bad line numbers out st room-n room_o Bad w parses writes refl _ _ refl refl)
+  said-by None w parses writes did = rw (did.0.1 ∙ purge-none st, over-nil 0 w)
+      (line-bad line numbers out st room-n room_o None w parses writes refl _ _ refl refl)
 
 -- ---- the loop
 
@@ -160,7 +160,7 @@ module _ (input : List ℕ) (s : State) (es : List Entry) (rs ns os : List ℕ) 
       ) refl
 
       -- what the callees left, one after the other
-      module _ (p : Parsed) (w : List ℕ) (parses : p ≡ parsed_in (line_at t.at input) t.numbers)
+      module _ (p : Option Call) (w : List ℕ) (parses : p ≡ parsed_in (line_at t.at input) t.numbers)
           (writes : w ≡ words_in (line_at t.at input) t.numbers) (b : List ℕ) (batch : b ≡ part 2 (rows_in p) w)
           (k : Kept) (rows bytes : List ℕ) (entries : List Entry)
           (did : Did (command_in p) (step (call_of (command_in p) b bits) (stored t)) k rows entries bits bytes)

@@ -6,15 +6,12 @@ use mathlib.Core.Bool.{Bool, not, ◌&&◌}
 use mathlib.Core.List.{List, [], ◌∷◌}
 use Prim.Native.Nat.{ℕ}
 use lib.Dec.{leb, eqb}
-use Rattle.lists.specs.Lists.{any_of, all_of}
+use Rattle.std.specs.List.{list_any, list_all}
 use Rattle.rules.specs.declared.Entry.{Entry}
 use Rattle.rules.specs.Rewrite.{has_epoch, skips}
 use Rattle.rules.specs.Bare.{bare}
 
-abbrev pub is_of : ℕ → Entry → Bool
-is_of i e = eqb e.epoch i
-
-pub has-entries : (i m : ℕ) (es : List Entry) → has_epoch i (bare m es) ≡ any_of (is_of i) es
+pub has-entries : (i m : ℕ) (es : List Entry) → has_epoch i (bare m es) ≡ list_any (λ e. eqb e.epoch i) es
 unfolding has_epoch bare
 has-entries i m [] = refl
 has-entries i m (e ∷ es) = rw (has-entries i e.end es)
@@ -23,7 +20,7 @@ has-entries i m (e ∷ es) = rw (has-entries i e.end es)
 abbrev pub left : ℕ → Entry → Bool
 left l e = leb l e.epoch && not (eqb e.mark 1 && leb e.epoch l)
 
-pub skips-entries : (l m : ℕ) (es : List Entry) → skips l (bare m es) ≡ all_of (left l) es
+pub skips-entries : (l m : ℕ) (es : List Entry) → skips l (bare m es) ≡ list_all (left l) es
 unfolding skips bare
 skips-entries l m [] = refl
 skips-entries l m (e ∷ es) = rw (skips-entries l e.end es)

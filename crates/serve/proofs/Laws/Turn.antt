@@ -3,7 +3,7 @@
 -- answering leaves; where the bytes held lie; a read taken in; a turn.
 -- Assumes nothing.
 use mathlib.Core.Path.{◌≡◌, refl, sym, ◌∙◌, ap}
-use mathlib.Core.Bool.{true, false, not}
+use mathlib.Core.Bool.{true, false}
 use mathlib.Core.List.{List, [], ◌∷◌, ◌++◌, append_assoc, append-nil}
 use Prim.Native.Nat.{ℕ, zero, suc, ◌+◌, ◌-◌, ◌≤◌, ◌<◌}
 use native.Mathlib.Omega.{arith}
@@ -13,7 +13,7 @@ use lib.ListN.{length, take, drop, set, length-append, length-take, drop_of_leng
 use lib.Seq.{length-take-le, take-nil, take-take, take-add, take-append_seam, take-suc-set, drop-drop}
 use borrow.Author.Tests.{eqb-true}
 use Rattle.lists.specs.Lists.{over}
-use Rattle.lists.proofs.Laws.Bools.{split, and_right}
+use Rattle.lists.proofs.Laws.Bools.{split}
 use Rattle.lists.proofs.Laws.Tests.{no_proof}
 use Rattle.lists.proofs.Laws.Parts.{drop-take, length_part, length_over}
 use Rattle.rules.specs.Store.{Store}
@@ -39,7 +39,6 @@ use Rattle.serve.specs.Turn.{
   Answered,
   Turned,
 }
-use Rattle.serve.specs.declared.turn.Got.{Got}
 use Rattle.serve.specs.declared.turn.Session.{Session}
 
 -- ---- bytes without a line end
@@ -254,17 +253,17 @@ stands_same s input next n e k = record {
 
 -- ---- a read taken in
 
-module _ (s : Session) (got : Got) (input : List ℕ) (stands : Standing s input) where
+module _ (s : Session) (n : ℕ) (input : List ℕ) (stands : Standing s input) where
   abbrev front_of : List ℕ
-  front_of = taken_in s.reads (is_over got) got.count s.end input
+  front_of = taken_in s.reads (is_over n) n s.end input
 
   abbrev taken : List ℕ
   taken = drop s.from front_of
 
   pub record Taken : Type 0 where
-    pub owing : (more : List ℕ) → (ended_by s got ≡ true → more ≡ []) → (st : Store)
-        → owed (held_in s input ++ came_in s got input) more st ≡ owed taken more st
-    pub last : ended_by s got ≡ true → rest_in taken ≡ []
+    pub owing : (more : List ℕ) → (ended_by s n ≡ true → more ≡ []) → (st : Store)
+        → owed (held_in s input ++ came_in s n input) more st ≡ owed taken more st
+    pub last : ended_by s n ≡ true → rest_in taken ≡ []
     pub order : s.from ≤ length front_of
 
   -- nothing was wanted
@@ -286,29 +285,29 @@ module _ (s : Session) (got : Got) (input : List ℕ) (stands : Standing s input
     no_lines = rw is_front at (stands.lines t)
 
     -- nothing came
-    taken-end : is_over got ≡ true → Taken
-    taken-end e = let z = eqb-true got.count 0 (and_right (not got.failed) (eqb got.count 0) e) in record {
-      owing = λ more m st. let n = m (rw (t, e)) in
-          rw (n, t, e, z, (stands.front t).0, append-nil whole, append-nil whole, append-nil (closed whole))
+    taken-end : is_over n ≡ true → Taken
+    taken-end e = let z = eqb-true n 0 e in record {
+      owing = λ more m st. let no = m (rw (t, e)) in
+          rw (no, t, e, z, (stands.front t).0, append-nil whole, append-nil whole, append-nil (closed whole))
           (ap (λ (l : List (List ℕ)). answers_to l st) (sym (closed-lines whole no_lines)));
       last = λ _. rw (t, e, (stands.front t).0) (closed-rest whole no_lines);
       order = omega (arith, (stands.front t).0);
     }
 
-    taken_more : is_over got ≡ false → Taken
+    taken_more : is_over n ≡ false → Taken
     taken_more e = record {
-      owing = λ more _ st. rw (t, e, (stands.front t).0, take-add s.end got.count input);
+      owing = λ more _ st. rw (t, e, (stands.front t).0, take-add s.end n input);
       last = λ y. no_proof (sym (rw (t, e)) ∙ y);
       order = omega (arith, (stands.front t).0);
     }
 
   pub take-taken : Taken
-  take-taken = split s.reads (λ t. split (is_over got) (taken-end t) (taken_more t)) taken_not
+  take-taken = split s.reads (λ t. split (is_over n) (taken-end t) (taken_more t)) taken_not
 
   -- ---- a turn
 
   pub turned : (st : Store) (r : Session) (now out : List ℕ) (after : Store) (held : List ℕ) → held ≡ taken
-      → r.ended ≡ ended_by s got → Answered held st r now out after → Turned s got input st r now out after
+      → r.ended ≡ ended_by s n → Answered held st r now out after → Turned s n input st r now out after
   turned st r now out after held is e a = let k = take-taken in record {
     ended = e;
     owing = λ more m. k.owing more (rw e at m) st ∙ (ap (λ (l : List ℕ). owed l more st) (sym is) ∙ a.owing more);

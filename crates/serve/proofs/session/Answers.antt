@@ -4,7 +4,7 @@ use Rattle.std.proofs.Common.{arith}
 use Rattle.session_line.specs.Rest.{kept_max}
 use Rattle.serve.proofs.session.Goals as goal
 
-pub serve-served-requires-clause-roomy : goal.serve-served-requires-clause-roomy
+pub serve-requires-clause-roomy : goal.serve-requires-clause-roomy
 unfolding kept_max
-serve-served-requires-clause-roomy c =
+serve-requires-clause-roomy c =
     record { for-numbers = omega arith; for-line = omega arith; for-answer = omega arith }

@@ -1,16 +1,15 @@
 -- Laws of what is kept of a line that is yet to come. Definition: specs/Lines.antt's kept.
--- In order: nothing; no more than there is; how much; one byte more moved to the front.
+-- In order: nothing; no more than there is; how much; the bytes copied to the front.
 -- Assumes nothing.
 use mathlib.Core.Path.{◌≡◌, refl, sym, ◌∙◌, ap}
-use mathlib.Core.List.{List, [], ◌∷◌}
+use mathlib.Core.List.{List, []}
 use Prim.Native.Nat.{ℕ, min, ◌+◌, ◌-◌, ◌≤◌, ◌<◌}
 use native.Mathlib.Omega.{arith}
-use native.Mathlib.Numerals.{add-one}
-use lib.ListN.{length, take, drop, get_or, set, length-take, length-drop, drop_of_length-le}
-use lib.Seq.{take-nil, take-suc, length-take-le, get_or-append-add, get_or-drop}
+use lib.ListN.{length, take, drop, length-take, length-drop, drop_of_length-le}
+use lib.Seq.{take-nil, length-take-le}
+use Rattle.std.specs.List.{copy_within}
 use Rattle.lists.specs.Lists.{over}
-use Rattle.lists.proofs.Laws.Parts.{part-least, length_over}
-use Rattle.lists.proofs.Laws.Over.{over-one, over-append}
+use Rattle.lists.proofs.Laws.Parts.{part-least}
 use Rattle.session_line.specs.Rest.{kept_max, kept}
 
 module _ (buffer : List ℕ) (from to : ℕ) where
@@ -38,34 +37,11 @@ module _ (buffer : List ℕ) (from to : ℕ) where
       ≡ kept buffer from to
   kept-count n e = part-least from (to - from) kept_max n buffer e
 
-  -- one byte more
-  module _ (i : ℕ) (now : List ℕ) (some : from + i < length buffer)
-      (so_far : now ≡ over 0 (take i (drop from buffer)) buffer) where
-    abbrev xs : List ℕ
-    xs = take i (drop from buffer)
-
-    count : length xs ≡ i
-    count = length-take-le i (drop from buffer) (omega (arith, length-drop from buffer))
-
-    -- the byte to move has not been written over
-    read : get_or now (from + i) 0 ≡ get_or (drop from buffer) i 0
-    read = let e : from + i ≡ length xs + from = omega (arith, count) in
-        let z : 0 + length xs ≡ i = omega (arith, count) in
-        let f : i + from ≡ from + i = omega arith in
-        rw (
-          so_far,
-          e,
-          get_or-append-add xs (drop (0 + length xs) buffer) from 0,
-          z,
-          get_or-drop i buffer from 0,
-          f,
-          get_or-drop from buffer i 0,
-        )
-
-    pub kept_next : set now i (get_or now (from + i) 0) ≡ over 0 (take (i + 1) (drop from buffer)) buffer
-    kept_next = let x = get_or (drop from buffer) i 0 in let z : 0 + length xs ≡ i = omega (arith, count) in
-        let fit : 0 + length xs ≤ length buffer = omega (arith, count) in
-        rw (read, so_far, add-one i, take-suc (drop from buffer) i 0 (omega (arith, length-drop from buffer)))
-        (sym (over-append 0 xs (x ∷ []) buffer (omega (arith, count))
-        ∙ (over-one (0 + length xs) x (over 0 xs buffer) (omega (arith, count, length_over 0 xs buffer fit))
-        ∙ ap (λ (k : ℕ). set (over 0 xs buffer) k x) z)))
+  -- copied to the front
+  pub kept-copied : (n : ℕ) (now : List ℕ) → n ≡ min (min kept_max (to - from)) (length buffer - from)
+      → now ≡ copy_within buffer from (from + n) 0
+      → (n ≡ length (kept buffer from to)) × (now ≡ over 0 (kept buffer from to) buffer)
+  kept-copied n now e p = let k = kept-count n e in let z : from + n - from ≡ n = omega arith in
+      let size : n ≡ length (kept buffer from to) =
+      sym (length-take-le n (drop from buffer) (omega (arith, length-drop from buffer))) ∙ ap length k in
+      (size, rw (← size, ← k) (rw z at p))

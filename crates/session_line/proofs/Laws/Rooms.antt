@@ -24,12 +24,12 @@ use Rattle.rules.specs.declared.Command.TheVariants.{Create, Scan}
 use Rattle.laws.proofs.Laws.Step.{scan-or}
 use Rattle.laws.proofs.Laws.Answers.{values-few}
 use Rattle.session_text.specs.Grammar.{are_numbers, numbers_of, numbers_in, parsed, parsed_short, line_max, is_digit}
-use Rattle.session_text.specs.Grammar.{with_one, with_two, with_more, with_numbers, scan_by}
+use Rattle.session_text.specs.Grammar.{bare, with_one, with_two, with_more, with_numbers, scan_by}
 use Rattle.session_text.specs.Numbers.{grown_by}
 use Rattle.session_text.specs.Grammar.{letter_of}
 use Rattle.session_text.specs.Print.{spaced, line_of, printed}
-use Rattle.session_text.specs.declared.Parsed.{Parsed}
-use Rattle.session_text.specs.declared.Parsed.TheVariants.{Call as Is, Bad}
+use Rattle.std.specs.Prelude.{Option, None, Some}
+use Rattle.session_text.specs.declared.Call.{Call}
 use Rattle.session_text.proofs.Laws.Grammar.{ok_from, later_in, ok-start, ok-nil, ok-blank, ok-digit, ok-other, ok-wide}
 use Rattle.session_text.proofs.Laws.Grammar.{later-nil, later-blank, later-other}
 use Rattle.session_text.proofs.Laws.Numbers.{length-numbers}
@@ -62,17 +62,17 @@ numbers-few : (bs : List ℕ) → are_numbers bs ≡ true → length bs ≤ line
 numbers-few bs h l = omega (arith, length-numbers bs, few false 0 bs (omega arith) (sym (ok-start bs) ∙ h))
 
 -- of a call with m numbers, all but the first two are rows, and m is small
-abbrev pub Fit : ℕ → Parsed → Type 0
-Fit m (Is c n) = (n ≡ m - 2) × (m ≤ numbers_max)
-Fit m Bad = Unit
+abbrev pub Fit : ℕ → Option Call → Type 0
+Fit m (Some c) = (c.rows ≡ m - 2) × (m ≤ numbers_max)
+Fit m None = Unit
 
-fit-cond : (m : ℕ) (t : Bool) (p q : Parsed) → Fit m p → Fit m q → Fit m (cond t p q)
+fit-cond : (m : ℕ) (t : Bool) (p q : Option Call) → Fit m p → Fit m q → Fit m (cond t p q)
 fit-cond m true p q f g = f
 fit-cond m false p q f g = g
 
 fit-one : (letter a : ℕ) → Fit 1 (with_one letter a)
 unfolding with_one
-fit-one letter a = let f : Fit 1 (Is (Create 0) 0) = (refl, omega arith) in
+fit-one letter a = let f : Fit 1 (bare (Create 0)) = (refl, omega arith) in
     fit-cond 1 (eqb letter 67) _ _ f (fit-cond 1 (eqb letter 88) _ _ f (fit-cond 1 (eqb letter 82) _ _ f
     (fit-cond 1 (eqb letter 69) _ _ f (fit-cond 1 (eqb letter 76) _ _ f (fit-cond 1 (eqb letter 80) _ _ f tt)))))
 
@@ -80,7 +80,7 @@ fit-numbers : (letter : ℕ) (ns : List ℕ) → length ns ≤ numbers_max → F
 unfolding with_numbers with_two with_more
 fit-numbers letter [] h = tt
 fit-numbers letter (a ∷ []) h = fit-one letter a
-fit-numbers letter (a ∷ b ∷ []) h = let f : Fit 2 (Is (Create 0) 0) = (refl, omega arith) in
+fit-numbers letter (a ∷ b ∷ []) h = let f : Fit 2 (bare (Create 0)) = (refl, omega arith) in
     fit-cond 2 (eqb letter 65) _ _ f (fit-cond 2 (eqb letter 68) _ _ f tt)
 fit-numbers letter (a ∷ b ∷ r ∷ rs) h = fit-cond (length (a ∷ b ∷ r ∷ rs)) (eqb letter 65) _ _ (omega arith, h) tt
 
@@ -88,7 +88,7 @@ fit-scan : (who : ℕ) (ns : List ℕ) → Fit (length ns) (scan_by who ns)
 unfolding scan_by
 fit-scan who [] = tt
 fit-scan who (a ∷ []) = tt
-fit-scan who (a ∷ b ∷ []) = let f : Fit 2 (Is (Create 0) 0) = (refl, omega arith) in
+fit-scan who (a ∷ b ∷ []) = let f : Fit 2 (bare (Create 0)) = (refl, omega arith) in
     fit-cond 2 (eqb who 108) _ _ f (fit-cond 2 (eqb who 112) _ _ f tt)
 fit-scan who (a ∷ b ∷ c ∷ rs) = tt
 
@@ -109,9 +109,9 @@ fit_line line = split (ltb line_max (length line)) (λ t. rw t tt)
     (λ f. rw f (fit-short line (ltb-false line_max (length line) f)))
 
 -- so a buffer of numbers_max words never makes a line bad
-pub room-parsed : (m k : ℕ) (p : Parsed) → Fit m p → numbers_max ≤ k → cond (leb m k) p Bad ≡ p
-room-parsed m k (Is c n) f h = rw (le-leb m k (omega arith))
-room-parsed m k Bad f h = split (leb m k) (λ t. rw t) (λ f. rw f)
+pub room-parsed : (m k : ℕ) (p : Option Call) → Fit m p → numbers_max ≤ k → cond (leb m k) p None ≡ p
+room-parsed m k (Some c) f h = rw (le-leb m k (omega arith))
+room-parsed m k None f h = split (leb m k) (λ t. rw t) (λ f. rw f)
 
 -- the rows of an append in the buffer
 pub rows-batch : (ns buffer : List ℕ) → take (length ns - 2) (drop 2 (over 0 ns buffer)) ≡ drop 2 ns
@@ -163,6 +163,6 @@ pub answer-few : (line : List ℕ) (st : Store) → length (answer_to line st) �
 unfolding answer_to
 answer-few line st = by (parsed line)
   where
-    by : (p : Parsed) → length (answer_is line p st) ≤ answer_max
-    by (Is c n) = printed-few c _ (rows_shown c st) (shown-few c st)
-    by Bad = omega arith
+    by : (p : Option Call) → length (answer_is line p st) ≤ answer_max
+    by (Some c) = printed-few c.command _ (rows_shown c.command st) (shown-few c.command st)
+    by None = omega arith

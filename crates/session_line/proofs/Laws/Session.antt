@@ -8,17 +8,17 @@ use Rattle.lists.specs.Lists.{gather}
 use Rattle.rules.specs.Step.{Call, run}
 use Rattle.rules.specs.Store.{Store}
 use Rattle.session_text.specs.Grammar.{parsed}
-use Rattle.session_text.specs.declared.Parsed.{Parsed}
-use Rattle.session_text.specs.declared.Parsed.TheVariants.{Call as Is, Bad}
+use Rattle.std.specs.Prelude.{Option, None, Some}
+use Rattle.session_text.specs.declared.Call.{Call as Read}
 use Rattle.session_line.specs.Session.{after_is, after_line, answer_to, after_lines, answers_to, calls_is, calls_of}
 
 -- ---- lines are calls
 
-after_is_lem : (line : List ℕ) (p : Parsed) (calls : List Call) (st : Store)
+after_is_lem : (line : List ℕ) (p : Option Read) (calls : List Call) (st : Store)
     → run (calls_is line p ++ calls) st ≡ run calls (after_is line p st)
 unfolding run
-after_is_lem line (Is c n) calls st = refl
-after_is_lem line Bad calls st = refl
+after_is_lem line (Some c) calls st = refl
+after_is_lem line None calls st = refl
 
 pub lines-run : (lines : List (List ℕ)) (st : Store) → after_lines lines st ≡ run (gather calls_of lines) st
 unfolding after_lines run after_line calls_of

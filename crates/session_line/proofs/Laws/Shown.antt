@@ -23,15 +23,12 @@ use Rattle.rules.specs.declared.Command.{Command}
 use Rattle.rules.specs.declared.Command.TheVariants.{Scan}
 use Rattle.rules.specs.declared.Partitions.{Partitions}
 use Rattle.rules.specs.declared.Reader.{Reader}
-use Rattle.rules.specs.contracts.Command.{the_type}
 use Rattle.laws.proofs.Laws.Step.{scan-or}
 use Rattle.reply.specs.Reply.{words_of}
 use Rattle.reply.specs.declared.ReplyWords.{ReplyWords}
 use Rattle.session_text.specs.Lines.{size_in, written_in}
 use Rattle.session_text.specs.Grammar.{letter_of}
 use Rattle.session_text.specs.Print.{line_of, printed}
-use types.Run.{OneOf, miss}
-use denote.Enum.Declared.{tag_of}
 use Rattle.area.specs.Load.{partition_in}
 use Rattle.session_line.specs.Shown.{shown_words, fitting, shown_in}
 
@@ -124,20 +121,16 @@ module _ (ws buffer now : List ℕ) (n : ℕ) (counts : n ≡ length (fitting ws
 
 -- ---- the line that answers a call, by whether it is a scan
 
--- the other commands, by their tags in the code
-abbrev pub others : List ℕ
-others = 0 ∷ 1 ∷ 2 ∷ 3 ∷ 4 ∷ 6 ∷ 7 ∷ 8 ∷ []
-
 no-scan : (c : Command) (a : Answer) (ps : Partitions) (bitmap rows ws : List ℕ)
-    → OneOf others (tag_of the_type c)
+    → ((r : Reader) (p : ℕ) → c ≡ Scan r p → ⊥)
     → (line_of (letter_of c) (reply_of a).number (reply_of a).values ≡ printed c a ws)
     × (shown_in c a ps bitmap rows ≡ [])
 unfolding printed
 no-scan c a ps bitmap rows ws = scan-or
-    (λ c. OneOf others (tag_of the_type c)
+    (λ c. ((r : Reader) (p : ℕ) → c ≡ Scan r p → ⊥)
     → (line_of (letter_of c) (reply_of a).number (reply_of a).values ≡ printed c a ws)
     × (shown_in c a ps bitmap rows ≡ []))
-    (λ r p h. absurd (miss others 5 tt h)) (λ c n h. (rw (n _ _ _), n _ _ _)) c
+    (λ r p h. absurd (h r p refl)) (λ c n h. (rw (n _ _ _), n _ _ _)) c
 
 module _ (c : Command) (a : Answer) (ps : Partitions) (bitmap rows buffer out : List ℕ) (letter : ℕ) (w : ReplyWords)
     (is-letter : letter ≡ letter_of c) (is-reply : w ≡ words_of (reply_of a)) (size : ℕ) (o : List ℕ) where
@@ -169,7 +162,7 @@ module _ (c : Command) (a : Answer) (ps : Partitions) (bitmap rows buffer out : 
         let g : ws ≡ shown = rw (is, is_at, is-reply, get_d-pad values_max 0 (reply_of a).values 0) in
         line-printed v (rw (is_front, f, g, is-letter, is-reply, is)) (rw g at shows)
 
-    pub other-printed : OneOf others (tag_of the_type c) → vs ≡ take w.count w.values
+    pub other-printed : ((r : Reader) (p : ℕ) → c ≡ Scan r p → ⊥) → vs ≡ take w.count w.values
         → Printed buffer
     other-printed h is_front = let e = no-scan c a ps bitmap rows (fitting shown buffer) h in
         line-printed buffer (rw (is_front, is-reply, take-pad values_max 0 (reply_of a).values, is-letter) e.0)

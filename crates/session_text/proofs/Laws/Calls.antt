@@ -7,16 +7,16 @@ use mathlib.Core.List.{List, [], ◌∷◌}
 use Prim.Native.Nat.{ℕ, suc, ◌+◌, ◌-◌, ◌≤◌, ◌<◌}
 use native.Mathlib.Omega.{arith}
 use lib.ListN.{length, take, drop, get_or}
-use lib.Seq.{length-take-le, get_or-take, take-append_seam}
+use lib.Seq.{take-append_seam}
 use lib.Dec.{leb, eqb}
 use borrow.Author.Tests.{le-leb, lt-leb, ne_eqb, lt-ltb, le-ltb}
 use Rattle.lists.specs.Lists.{over}
 use Rattle.lists.proofs.Laws.Bools.{split}
 use Rattle.rules.specs.declared.Command.TheVariants.{Manage}
 use Rattle.rules.specs.declared.ManagerCall.TheVariants.{Begin}
-use Rattle.session_text.specs.declared.Parsed.{Parsed}
-use Rattle.session_text.specs.declared.Parsed.TheVariants.{Call, Bad}
-use Rattle.session_text.specs.Grammar.{with_one, with_two, with_more, with_numbers, scan_by, is_call}
+use Rattle.std.specs.Prelude.{Option, None, Some}
+use Rattle.session_text.specs.declared.Call.{Call}
+use Rattle.session_text.specs.Grammar.{bare, with_one, with_two, with_more, with_numbers, scan_by, is_call}
 use Rattle.session_text.specs.Grammar.{are_numbers, numbers_of, numbers_in, parsed_short, parsed, line_max}
 use Rattle.session_text.proofs.Laws.Numbers.{length-numbers}
 use Rattle.session_text.specs.Calls.{call_by, call_on, numbers_call, from_of, in_room, if_call}
@@ -30,20 +30,13 @@ call-numbers letter who (a ∷ b ∷ []) h = refl
 call-numbers letter who (a ∷ b ∷ r ∷ rs) h = let n = length rs in let e : suc (suc (suc n)) - 2 ≡ suc n = omega arith in
     rw (ne_eqb (suc (suc (suc n))) 2 (λ z. omega arith), ne_eqb (suc (suc (suc n))) 1 (λ z. omega arith), e)
 
--- at the front of a buffer
-
-pub call-one : (letter who : ℕ) (l : List ℕ) → 1 ≤ length l
-    → call_by letter who 1 (get_or l 0 0) 0 ≡ call_on letter who (take 1 l)
+pub call-one : (letter who : ℕ) (ns : List ℕ) → length ns ≡ 1
+    → call_by letter who 1 (get_or ns 0 0) 0 ≡ call_on letter who ns
 call-one letter who [] h = absurd (omega arith)
-call-one letter who (a ∷ l) h = call-numbers letter who (a ∷ []) (omega arith)
+call-one letter who (a ∷ []) h = call-numbers letter who (a ∷ []) (omega arith)
+call-one letter who (a ∷ b ∷ ns) h = absurd (omega arith)
 
-pub call-more : (letter who n : ℕ) (l : List ℕ) → 2 ≤ n → n ≤ length l
-    → call_by letter who n (get_or l 0 0) (get_or l 1 0) ≡ call_on letter who (take n l)
-call-more letter who n l h f = let e = length-take-le n l f in
-    rw (e, get_or-take n l 0 0 (omega arith), get_or-take n l 1 0 (omega arith))
-    at (call-numbers letter who (take n l) (omega arith))
-
-is_call-cond : (t : Bool) (p q : Parsed) → is_call (cond t p q) ≡ cond t (is_call p) (is_call q)
+is_call-cond : (t : Bool) (p q : Option Call) → is_call (cond t p q) ≡ cond t (is_call p) (is_call q)
 is_call-cond true p q = refl
 is_call-cond false p q = refl
 
@@ -52,35 +45,39 @@ pub call_same : (letter who n a b a' b' : ℕ) → is_call (call_by letter who n
 unfolding with_one with_two with_more scan_by
 call_same letter who n a b a' b' = simp is_call-cond
 
-pub not_call : (p : Parsed) → is_call p ≡ false → p ≡ Bad
-not_call (Call c n) h = cc
-not_call Bad h = refl
+pub not_call : (p : Option Call) → is_call p ≡ false → p ≡ None
+not_call (Some c) h = cc
+not_call None h = refl
 
 -- ---- a line's numbers, counted
 
-module _ (bs : List ℕ) (n : ℕ) (counts : n ≡ cond (are_numbers bs) (length (numbers_of bs)) 0) where
-  pub none-counted : n ≡ 0 → are_numbers bs ≡ false
-  none-counted z = split (are_numbers bs)
-      (λ t. let e = rw t at counts in absurd (omega (arith, length-numbers bs))) (λ f. f)
+pub none-counted : (bs : List ℕ) → None ≡ cond (are_numbers bs) (Some (length (numbers_of bs))) None
+    → are_numbers bs ≡ false
+none-counted bs h = split (are_numbers bs)
+    (λ t. let e : None ≡ Some (length (numbers_of bs)) = rw t at h in cc) (λ f. f)
 
-  pub some-numbers : (n ≡ 0 → ⊥) → are_numbers bs ≡ true
-  some-numbers h = split (are_numbers bs) (λ t. t) (λ f. absurd (h (rw f at counts)))
+module _ (bs : List ℕ) (n : ℕ) (counts : Some n ≡ cond (are_numbers bs) (Some (length (numbers_of bs))) None) where
+  pub some-numbers : are_numbers bs ≡ true
+  some-numbers = split (are_numbers bs) (λ t. t) (λ f. let e : Some n ≡ None = rw f at counts in cc)
 
-  pub some-counted : (n ≡ 0 → ⊥) → n ≡ length (numbers_of bs)
-  some-counted h = rw (some-numbers h) at counts
+  pub some-counted : n ≡ length (numbers_of bs)
+  some-counted = let e : Some n ≡ Some (length (numbers_of bs)) = rw some-numbers at counts in cc
+
+  pub some-count : 1 ≤ n
+  some-count = omega (arith, some-counted, length-numbers bs)
 
 -- ---- a line with a buffer for its numbers
 
-cond-bad : (t : Bool) → Bad ≡ cond t Bad Bad
-cond-bad true = refl
-cond-bad false = refl
+cond_same : {A : Type 0} (t : Bool) (x : A) → x ≡ cond t x x
+cond_same true x = refl
+cond_same false x = refl
 
 module _ (letter who : ℕ) (bs buffer : List ℕ) where
-  pub no-numbers : are_numbers bs ≡ false → Bad ≡ in_room (numbers_of bs) buffer (numbers_call letter who bs)
-  no-numbers h = rw h (cond-bad (leb (length (numbers_of bs)) (length buffer)))
+  pub no-numbers : are_numbers bs ≡ false → None ≡ in_room (numbers_of bs) buffer (numbers_call letter who bs)
+  no-numbers h = rw h (cond_same (leb (length (numbers_of bs)) (length buffer)) None)
 
   pub short_buffer : length buffer < length (numbers_of bs)
-      → Bad ≡ in_room (numbers_of bs) buffer (numbers_call letter who bs)
+      → None ≡ in_room (numbers_of bs) buffer (numbers_call letter who bs)
   short_buffer h = rw (lt-leb (length (numbers_of bs)) (length buffer) h)
 
   module _ (n : ℕ) (numbers : are_numbers bs ≡ true) (count : n ≡ length (numbers_of bs)) where
@@ -93,11 +90,11 @@ module _ (letter who : ℕ) (bs buffer : List ℕ) where
         ∙ ap is_call (call-numbers letter who ns some))
 
     pub other_letter : is_call (call_by letter who n 0 0) ≡ false
-        → Bad ≡ in_room (numbers_of bs) buffer (numbers_call letter who bs)
+        → None ≡ in_room (numbers_of bs) buffer (numbers_call letter who bs)
     other_letter h = rw (numbers, not_call (call_on letter who (numbers_of bs)) (sym kind ∙ h))
-        (cond-bad (leb (length (numbers_of bs)) (length buffer)))
+        (cond_same (leb (length (numbers_of bs)) (length buffer)) None)
 
-    pub call_line : (r : Parsed) (w : List ℕ) → length (numbers_of bs) ≤ length buffer
+    pub call_line : (r : Option Call) (w : List ℕ) → length (numbers_of bs) ≤ length buffer
         → is_call (call_by letter who n 0 0) ≡ true
         → w ≡ over 0 (numbers_of bs) buffer → r ≡ call_on letter who (take n w)
         → (r ≡ in_room (numbers_of bs) buffer (numbers_call letter who bs)) × (w ≡ if_call r (numbers_of bs) buffer)
@@ -108,7 +105,7 @@ module _ (letter who : ℕ) (bs buffer : List ℕ) where
 
 -- ---- a line by its bytes
 
-pub long-line : (line : List ℕ) → line_max < length line → parsed line ≡ Bad
+pub long-line : (line : List ℕ) → line_max < length line → parsed line ≡ None
 unfolding parsed
 long-line line h = rw (lt-ltb line_max (length line) h)
 
@@ -116,19 +113,19 @@ fit_line : (line : List ℕ) → length line ≤ line_max → parsed line ≡ pa
 unfolding parsed
 fit_line line h = rw (le-ltb line_max (length line) h)
 
-pub bad-line : (line buffer : List ℕ) → parsed line ≡ Bad → Bad ≡ in_room (numbers_in line) buffer (parsed line)
-bad-line line buffer h = rw h (cond-bad (leb (length (numbers_in line)) (length buffer)))
+pub bad-line : (line buffer : List ℕ) → parsed line ≡ None → None ≡ in_room (numbers_in line) buffer (parsed line)
+bad-line line buffer h = rw h (cond_same (leb (length (numbers_in line)) (length buffer)) None)
 
 -- of fewer than three bytes
 
-pub no_bytes : (line : List ℕ) → length line < 3 → (length line ≡ 1 → ⊥) → Bad ≡ parsed_short line
+pub no_bytes : (line : List ℕ) → length line < 3 → (length line ≡ 1 → ⊥) → None ≡ parsed_short line
 unfolding parsed_short
 no_bytes [] h n = refl
 no_bytes (a ∷ []) h n = absurd (n refl)
 no_bytes (a ∷ b ∷ []) h n = refl
 no_bytes (a ∷ b ∷ d ∷ bs) h n = absurd (omega arith)
 
-pub one_byte : (line : List ℕ) → length line ≡ 1 → cond (eqb (get_or line 0 0) 66) (Call (Manage Begin) 0) Bad ≡
+pub one_byte : (line : List ℕ) → length line ≡ 1 → cond (eqb (get_or line 0 0) 66) (bare (Manage Begin)) None ≡
     parsed_short line
 unfolding parsed_short
 one_byte [] h = absurd (omega arith)
@@ -142,11 +139,7 @@ short-numbers (a ∷ []) h = refl
 short-numbers (a ∷ b ∷ []) h = refl
 short-numbers (a ∷ b ∷ d ∷ bs) h = absurd (omega arith)
 
-cond_same : (t : Bool) (l : List ℕ) → l ≡ cond t l l
-cond_same true l = refl
-cond_same false l = refl
-
-pub short-line : (line buffer : List ℕ) (r : Parsed) → length line < 3 → r ≡ parsed_short line
+pub short-line : (line buffer : List ℕ) (r : Option Call) → length line < 3 → r ≡ parsed_short line
     → (r ≡ in_room (numbers_in line) buffer (parsed line)) × (buffer ≡ if_call r (numbers_in line) buffer)
 short-line line buffer r h e = (
   rw (short-numbers line h, le-leb 0 (length buffer) (omega arith)) (e ∙ sym (fit_line line (omega arith))),
@@ -168,7 +161,7 @@ long-numbers (a ∷ []) h = absurd (omega arith)
 long-numbers (a ∷ b ∷ []) h = absurd (omega arith)
 long-numbers (a ∷ b ∷ d ∷ bs) h = split (eqb a 83) (λ t. rw t) (λ f. rw f)
 
-pub no-blank : (line : List ℕ) → 3 ≤ length line → (get_or line 1 0 ≡ 32 → ⊥) → parsed_short line ≡ Bad
+pub no-blank : (line : List ℕ) → 3 ≤ length line → (get_or line 1 0 ≡ 32 → ⊥) → parsed_short line ≡ None
 unfolding parsed_short
 no-blank [] h n = absurd (omega arith)
 no-blank (a ∷ []) h n = absurd (omega arith)
@@ -184,10 +177,10 @@ long-parsed (a ∷ b ∷ []) h e = absurd (omega arith)
 long-parsed (a ∷ b ∷ d ∷ bs) h e = split (eqb a 83) (λ t. rw (e, t)) (λ f. rw (e, f))
 
 pub unblank-line : (line : List ℕ) → length line ≤ line_max → 3 ≤ length line → (get_or line 1 0 ≡ 32 → ⊥)
-    → parsed line ≡ Bad
+    → parsed line ≡ None
 unblank-line line f h n = fit_line line f ∙ no-blank line h n
 
-pub whole-line : (line buffer w : List ℕ) (r : Parsed) (from : ℕ)
+pub whole-line : (line buffer w : List ℕ) (r : Option Call) (from : ℕ)
     → length line ≤ line_max → 3 ≤ length line → get_or line 1 0 ≡ 32 → from ≡ from_of (get_or line 0 0)
     → r ≡ in_room (numbers_of (drop from line)) buffer (numbers_call (get_or line 0 0) (get_or line 2 0)
     (drop from line))

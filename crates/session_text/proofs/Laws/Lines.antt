@@ -6,8 +6,14 @@ use mathlib.Core.List.{List, [], ◌∷◌, ◌++◌}
 use Prim.Native.Nat.{ℕ, suc, ◌+◌, ◌≤◌, ◌<◌}
 use native.Mathlib.Omega.{arith}
 use lib.ListN.{length, drop, set, length-append, length-set}
-use borrow.Author.Tests.{le-leb, lt-leb, lt-ltb, le-ltb, ne_eqb}
+use borrow.Author.Tests.{le-leb, lt-leb, lt-ltb, le-ltb, ne_eqb, eqb-true, eqb-false, ltb-false}
+use Rattle.std.specs.Prelude.{position, eqb, ltb, not, Bool}
+use Rattle.std.specs.List.{position_or_len}
+use Rattle.std.proofs.lemmas.List.Recursion.{is_position_or_len}
+use Rattle.std.proofs.lemmas.List.Sums.{prefix_len-le-length}
+use Rattle.std.specs.Option.{unwrap_or}
 use Rattle.lists.specs.Lists.{over, gather}
+use Rattle.lists.proofs.Laws.Bools.{split}
 use Rattle.lists.proofs.Laws.Parts.{length_over}
 use Rattle.session_text.specs.Print.{spaced, line_of}
 use Rattle.session_text.specs.Lines.{size_in, written_in, before_end, line_end}
@@ -71,3 +77,14 @@ end-here b bs e = rw e
 pub end_later : (b : ℕ) (bs : List ℕ) → (b ≡ 10 → ⊥) → before_end (b ∷ bs) ≡ suc (before_end bs)
 unfolding before_end
 end_later b bs n = rw (ne_eqb b 10 n)
+
+-- counted as `position` does
+before-prefix : (bs : List ℕ) → before_end bs ≡ position_or_len (λ (b : ℕ). eqb b 10) bs
+before-prefix = is_position_or_len before_end (λ (b : ℕ). eqb b 10) end_none
+    (λ b bs. split (eqb b 10) (λ t. rw t (end-here b bs (eqb-true b 10 t)))
+    (λ f. rw f (end_later b bs (eqb-false b 10 f) ∙ omega arith)))
+
+pub end-position : (bs : List ℕ) → before_end bs ≡ unwrap_or (position (λ (b : ℕ). eqb b 10) bs) (length bs)
+end-position bs = let p : ℕ → Bool = λ b. eqb b 10 in let n = position_or_len p bs in
+    before-prefix bs ∙ split (ltb n (length bs)) (λ t. rw t)
+    (λ f. rw f (omega (arith, ltb-false n (length bs) f, prefix_len-le-length (λ (b : ℕ). not (eqb b 10)) bs)))

@@ -1,15 +1,16 @@
 -- What purge decides by value is what step leaves. Definitions: plan_purge/specs/Purge.antt.
--- In order: nothing written, the entries placed, a partition's area, a rewrite of it, purge.
+-- In order: carried out, a partition's area, a rewrite of it, purge.
 -- Assumes nothing.
-use mathlib.Core.Path.{◌≡◌, refl, sym, ap, ◌∙◌}
-use mathlib.Core.Bool.{true, cond}
+use mathlib.Core.Path.{◌≡◌, refl, sym, ap, ◌∙◌, subst}
+use mathlib.Core.Bool.{true}
 use mathlib.Core.List.{List}
 use Prim.Native.Nat.{ℕ, ◌+◌, ◌*◌, ◌≤◌, ◌<◌}
 use native.Mathlib.Omega.{arith}
-use lib.ListN.{length, take, drop, length-append}
+use lib.ListN.{length, drop}
 use lib.Seq.{take-take}
 use lib.Dec.{ltb, leb}
-use borrow.Author.Tests.{lt-ltb, le-ltb, le-leb, ltb-true, ltb-false, leb-false}
+use Rattle.std.specs.Prelude.{Result, Ok, Err}
+use borrow.Author.Tests.{lt-ltb, le-leb, ltb-true, ltb-false, leb-false}
 use Rattle.lists.specs.Lists.{over}
 use Rattle.lists.proofs.Laws.All.{All}
 use Rattle.lists.proofs.Laws.Bools.{split, split-eq}
@@ -17,73 +18,49 @@ use Rattle.rules.specs.Manager.{manager_in}
 use Rattle.rules.specs.Limits.{partitions_max, areas_max, rows_max, entries_max}
 use Rattle.rules.specs.Span.{Span, spans, entries_of, words_of}
 use Rattle.rules.specs.Rewrite.{purged_in, purged, skips}
-use Rattle.rules.specs.Store.{with_partitions_in, Store, entries_at, rows_at, spans_at, laid, laid_in_spare}
+use Rattle.rules.specs.Store.{with_partitions_in, entries_at, rows_at, spans_at, laid, laid_in_spare}
 use Rattle.rules.specs.Store.{purged_store}
-use Rattle.rules.specs.Answers.{accepted}
 use Rattle.rules.specs.WellFormed.{ends_ok, sound}
 use Rattle.rules.specs.Calls.{purge_answer}
 use Rattle.rules.specs.Step.{Outcome, purge_outcome, step, purge}
-use Rattle.rules.specs.declared.Answer.{Answer}
 use Rattle.rules.specs.declared.Answer.TheVariants.{Rewritten, Skipped, Refused}
-use Rattle.rules.specs.declared.Refusal.TheVariants.{UnknownPartition, Unsound}
+use Rattle.rules.specs.declared.Refusal.{Refusal}
 use Rattle.rules.specs.declared.Entry.{Entry}
 use Rattle.rules.specs.declared.State.{State}
 use Rattle.laws.proofs.Laws.Rewrite.{length-joined, length-purged_in}
-use Rattle.laws.proofs.Laws.Span.{length-entries_of}
 use Rattle.laws.proofs.Laws.WellFormed.{StoreOk}
 use Rattle.laws.proofs.Laws.Totals.{sound-facts}
-use Rattle.lent.specs.Shapes.{saved}
-use Rattle.lent.proofs.Saved.{saved-none, saved-over}
 use Rattle.rewrite_plan.specs.Plan.{spans_in}
-use Rattle.rewrite.specs.Kept.{area_of, as_rewritten, rewritten_of}
+use Rattle.rewrite.specs.Kept.{as_rewritten, rewritten_of}
 use Rattle.rewrite.specs.Copied.{areas_apart, rows_copied}
-use Rattle.area.specs.declared.Area.{Area}
-use Rattle.rewrite.proofs.Laws.Store.{copied-nowhere as copied_none}
+use Rattle.rewrite.specs.Move.{move_to_spare, entries_moved, rows_moved}
+use Rattle.rewrite.specs.declared.moves.Move.{Move}
+use Rattle.rewrite.specs.declared.Rewritten.{Rewritten as Kept}
+use Rattle.rewrite.proofs.Laws.Move.{put-kept}
 use Rattle.rewrite.proofs.Laws.Store.{Dated, dated, area-entries, skips-same, purged-area, purged-copied}
 use Rattle.rewrite.proofs.Laws.Copied.{apart-before, apart-after}
-use Rattle.area.specs.Area.{entries_in, place_at, base_of, area_at}
+use Rattle.area.specs.Area.{entries_in, base_of, area_at}
 use Rattle.area.specs.Load.{loaded_area}
+use Rattle.area.proofs.Laws.Area.{base-fits}
 use Rattle.area.proofs.Laws.Load.{loaded-area}
 use Rattle.partition.specs.Areas.{moved_to}
 use Rattle.admit.specs.Admit.{partition_of}
-use Rattle.plan_purge.specs.Purge.{unwritten_purge, plan_at, moved_purge, purge_plan, new_of, place_of}
+use Rattle.plan_purge.specs.Purge.{plan_at, rewrite_at, purge_plan}
 use Rattle.plan_purge.specs.declared.Purge.{Purge}
+use Rattle.plan_purge.specs.declared.Purge.TheVariants.{Skip, Rewrite}
 use Rattle.store.specs.Kept.{store_of, Left}
-use Rattle.store.specs.Done.{done_purge}
+use Rattle.store.specs.Done.{done_rewrite}
 use Rattle.store.proofs.Laws.Kept.{rest_in, sound-is}
 use Rattle.store.proofs.Laws.Scan.{entries-facts, words}
 
 -- ---- a purge carried out
 
-abbrev pub Carried : State → List Entry → List ℕ → Outcome → Purge → Type 0
-Carried s es rs out w =
-    Left out (done_purge s w) (rows_copied w.old w.plan w.from w.to rs) (saved place_of new_of es w 64)
-
--- a purge that is refused or skipped leaves the store
-unwritten-left : (s : State) (es : List Entry) (rs : List ℕ) (p : ℕ) (a : Answer) (next : Store)
-    → cond (accepted a) next (store_of s rs es) ≡ store_of s rs es
-    → Carried s es rs (purge_outcome p a next (store_of s rs es)) (unwritten_purge (length es) (length rs) a)
-unfolding place_at moved_to
-unwritten-left s es rs p a next same = let w = unwritten_purge (length es) (length rs) a in (
-  refl,
-  (λ j. store_of s (copied_none w.old w.plan (length rs) rs j)
-      (saved-none place_of new_of es w (λ i. rw (le-ltb i 0 (omega arith)) (omega arith)) 64 j)) ∙ sym same,
-)
-
--- ---- the entries of spans, one behind the other
-
-placed : (w : Purge) (ts : List Span) (es : List Entry) → w.new ≡ area_of ts → length ts ≤ entries_max
-    → w.entry + length ts ≤ length es → w.entry < entries_max * areas_max → w.past ≡ length es
-    → saved place_of new_of es w 64 ≡ over w.entry (entries_of 0 ts) es
-unfolding place_at
-placed w ts es e few room low past =
-    let n : w.new.count ≡ length ts = ap (λ (a : Area). a.count) e in
-    let at : w.new.at ≡ (area_of ts).at = ap (λ (a : Area). a.at) e in
-    saved-over place_of new_of es w w.entry (length ts) room
-    (rw at (simp length-append (omega (arith, length-entries_of 0 ts))))
-    (λ i k. rw (n, lt-ltb i (length ts) k, lt-ltb i entries_max (omega arith), lt-ltb w.entry 576 low))
-    (λ i k. rw (n, le-ltb i (length ts) k) (omega arith)) 64 few
-    ∙ ap (λ (xs : List Entry). over w.entry xs es) (ap (take (length ts)) at ∙ area-entries ts)
+abbrev pub Carried : State → List Entry → List ℕ → Outcome → Result Purge Refusal → Type 0
+Carried s es rs out (Err why) = Left out (record { state = s; answer = Refused why }) rs es
+Carried s es rs out (Ok (Skip n)) = Left out (record { state = s; answer = Skipped n }) rs es
+Carried s es rs out (Ok (Rewrite p n w)) =
+    Left out (done_rewrite s (moved_to p n w.new.count s.partitions) (Rewritten n)) (rows_moved w rs)
+    (entries_moved w es)
 
 length-purged : (l : ℕ) (ss : List Span) → length (purged l ss) ≤ length ss
 unfolding purged
@@ -152,26 +129,28 @@ module _ (s : State) (es : List Entry) (rs : List ℕ) (ok : StoreOk (store_of s
       apart l epochs
       ∙ ap (λ (ss : List Span). over to (words_of (purged l ss)) rs) spans-are)
 
-  abbrev purge_of : ℕ → Purge
-  purge_of l = moved_purge (area_at es (partition_of p s)) (length es) s.partitions.spare l p (partition_of p s)
+  abbrev move_of : ℕ → Move
+  move_of l = let a = area_at es (partition_of p s) in let plan = plan_at l a in
+      move_to_spare a plan (rewritten_of a plan).area (partition_of p s).area s.partitions.spare
 
   entries-are : (l : ℕ)
-      → saved place_of new_of es (purge_of l) 64
+      → entries_moved (move_of l) es
       ≡ over (entries_max * s.partitions.spare) (entries_of 0 (purged l (spans_at p (store_of s rs es)))) es
   entries-are l = let ss = spans_at p (store_of s rs es) in let spare = s.partitions.spare in
       let b = base-is entries_max spare ok.areas.spare-inside in let n = ok.entries-length in
-      let i = ok.areas.spare-inside in let c = length-purged l ss in
-      let f = (ok.partition p h).spans-ok.entries_fit in
-      placed (purge_of l) (purged l ss) es
-      (ap (λ d. d.area) (done-is l)) (omega arith) (rw b (omega arith)) (rw b (omega arith)) refl
-      ∙ ap (λ (k : ℕ). over k (entries_of 0 (purged l ss)) es) b
+      let c = length-purged l ss in let f = (ok.partition p h).spans-ok.entries_fit in
+      let d = ap (λ (w : Kept). w.area.count) (done-is l) in
+      put-kept (move_of l) es (omega arith) (base-fits spare) n
+      ∙ (ap (λ (xs : List Entry). over (base_of entries_max spare) xs es)
+      (ap (λ (w : Kept). entries_in w.area) (done-is l) ∙ area-entries (purged l ss))
+      ∙ ap (λ (k : ℕ). over k (entries_of 0 (purged l ss)) es) b)
 
-  moved-left : (l : ℕ)
+  rewrite-left : (l : ℕ)
       → Carried s es rs (purge_outcome p (Rewritten (length (words_of (purged l (spans_at p (store_of s rs es))))))
       (laid_in_spare p (purged l (spans_at p (store_of s rs es))) (store_of s rs es)) (store_of s rs es))
-      (purge_of l)
+      (Ok (rewrite_at (area_at es (partition_of p s)) s.partitions.spare l p (partition_of p s)))
   unfolding laid_in_spare laid moved_to
-  moved-left l = let ts = purged l (spans_at p (store_of s rs es)) in
+  rewrite-left l = let ts = purged l (spans_at p (store_of s rs es)) in
       let ps : moved_to p (length (words_of ts)) (length ts) s.partitions
       ≡ (laid_in_spare p ts (store_of s rs es)).state.partitions = rw (lt-ltb p partitions_max h) in (
         ap (λ d. Rewritten d.rows) (done-is l),
@@ -182,18 +161,24 @@ module _ (s : State) (es : List Entry) (rs : List ℕ) (ok : StoreOk (store_of s
 
 -- ---- purge
 
-pub purge-left : (s : State) → length s.partitions.at ≡ partitions_max → (es : List Entry) (rs : List ℕ) (p : ℕ)
+planned-left : (s : State) → length s.partitions.at ≡ partitions_max → (es : List Entry) (rs : List ℕ) (p : ℕ)
     → Carried s es rs (step (purge p) (store_of s rs es))
-    (purge_plan s (rest_in s es rs) (loaded_area es s.partitions p) (length es) (length rs) p)
+    (purge_plan s (rest_in s es rs) (loaded_area es s.partitions p) p)
 unfolding step purge_answer purged_store purge_plan
-purge-left s n es rs p =
-    let st = store_of s rs es in let l = s.clock.lse in let next = purged_store p st in
+planned-left s n es rs p =
+    let st = store_of s rs es in let l = s.clock.lse in
     rw (sound-is s es rs) (split (sound st)
     (λ t. let ok = (sound-facts st n t).shape in rw (t, loaded-area es ok.entries-length s.partitions p)
     (split (leb partitions_max p)
-    (λ u. rw u (unwritten-left s es rs p (Refused UnknownPartition) next refl))
+    (λ u. rw u (refl, refl))
     (λ u. let h = leb-false partitions_max p u in split (skips l (spans_at p st))
-    (λ k. rw (u, skips-are s es rs ok p h l, k)
-    (unwritten-left s es rs p (Skipped (partition_of p s).rows) st refl))
-    (λ k. rw (u, skips-are s es rs ok p h l, k) (moved-left s es rs ok p h l)))))
-    (λ f. rw f (unwritten-left s es rs p (Refused Unsound) next refl)))
+    (λ k. rw (u, skips-are s es rs ok p h l, k) (refl, refl))
+    (λ k. rw (u, skips-are s es rs ok p h l, k) (rewrite-left s es rs ok p h l)))))
+    (λ f. rw f (refl, refl)))
+
+-- the same of what was handed back
+pub purge-left : (s : State) → length s.partitions.at ≡ partitions_max → (es : List Entry) (rs : List ℕ) (p : ℕ)
+    → {w : Result Purge Refusal} → w ≡ purge_plan s (rest_in s es rs) (loaded_area es s.partitions p) p
+    → Carried s es rs (step (purge p) (store_of s rs es)) w
+purge-left s n es rs p e = subst (Carried s es rs (step (purge p) (store_of s rs es))) (sym e)
+    (planned-left s n es rs p)

@@ -37,7 +37,7 @@ use Rattle.partition_sound.proofs.Laws.Lands.{lands-rollback}
 use Rattle.undo.specs.Lots.{rolling_of, rolled_lots}
 use Rattle.undo.proofs.Laws.Lots.{lots_rolled, lots-left}
 use Rattle.store.specs.Kept.{store_of, Left, roll_back_kept, records_of, asked_roll_back, rest_kept}
-use Rattle.store.specs.Done.{done_roll_back}
+use Rattle.store.specs.Done.{done_rewrite}
 use Rattle.store.proofs.Laws.Kept.{rest_in, sound-is, rest_for}
 
 -- what the lots' part leaves of lent areas and partitions
@@ -85,7 +85,7 @@ module _ (s : State) (n : length s.partitions.at ≡ partitions_max) (n' : lengt
 
   module _ (ps' : Partitions) (es' : List Entry) (rs' : List ℕ) where
     pub roll-back-left : Rolls es rs s.partitions i (accepted rolls_back.answer) ps' es' rs'
-        → Left (step (rollback i) st) (done_roll_back rolls_back ps') rs' es'
+        → Left (step (rollback i) st) (done_rewrite rolls_back.state ps' rolls_back.answer) rs' es'
     unfolding step
     roll-back-left rel =
         let a = close_answer i (sound st) m next in

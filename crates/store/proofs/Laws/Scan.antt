@@ -1,15 +1,16 @@
 -- What a scan decides by value is what step leaves. Definitions: plan_scan/specs/Scan.antt.
--- In order: a refusal, the bytes written, a partition's entries, a scan, the two readers.
+-- In order: what a scan leaves, a refusal, the bytes written, a partition's entries, a scan.
 -- Assumes nothing.
 use mathlib.Core.Path.{◌≡◌, refl, sym, ap, ◌∙◌}
 use mathlib.Core.Bool.{Bool, true}
-use mathlib.Core.List.{List, []}
+use mathlib.Core.List.{List}
 use Prim.Native.Nat.{ℕ, ◌*◌, ◌≤◌, ◌<◌}
 use native.Mathlib.Omega.{arith}
 use lib.ListN.{length, drop}
 use lib.Seq.{take_at, take-take}
 use lib.Dec.{ltb, leb}
 use borrow.Author.Tests.{lt-ltb, le-leb, ltb-false, leb-false}
+use Rattle.std.specs.Prelude.{Result, Ok, Err}
 use Rattle.lists.specs.Lists.{ones}
 use Rattle.lists.proofs.Laws.Bools.{split}
 use Rattle.rules.specs.Limits.{partitions_max, areas_max, rows_max, entries_max}
@@ -40,25 +41,20 @@ use Rattle.area.specs.Area.{entries_in, area_at}
 use Rattle.area.specs.Load.{loaded_area}
 use Rattle.area.proofs.Laws.Load.{loaded-area}
 use Rattle.admit.specs.Admit.{partition_of}
-use Rattle.rules.specs.Manager.{deps_at, manager_in}
-use Rattle.plan_scan.specs.Scan.{no_bits, refused_look, look_at, rw_view, ro_view, look_by, rw_look, ro_look, copied}
+use Rattle.rules.specs.Manager.{Manager, manager_in}
+use Rattle.plan_scan.specs.Scan.{no_bits, look_at, view_of, deps_of, scan_plan, copied}
 use Rattle.plan_scan.specs.declared.Look.{Look}
 use Rattle.store.specs.Kept.{store_of, Showed}
 use Rattle.store.proofs.Laws.Kept.{rest_in, sound-is}
 
--- ---- a scan of the store st carried out, with these bytes lent
+-- what a scan of the store st leaves, by what was decided, with these bytes lent
+abbrev pub Leaves : List ℕ → Store → Outcome → Result Look Refusal → Type 0
+Leaves lent st out (Ok w) = Showed out (Scanned w.rows w.ones) (copied w.count w.bits lent) st
+Leaves lent st out (Err why) = Showed out (Refused why) lent st
 
-abbrev pub Carried : List ℕ → Store → Outcome → Look → Type 0
-Carried lent st out w = Showed out w.answer (copied w.count w.bits lent) st
-
-copied_none : (bits lent : List ℕ) → copied 0 bits lent ≡ lent
-unfolding copied
-copied_none bits lent = rw (le-leb 0 (length lent) (omega arith))
-
-refused-left : (r : Refusal) (s : State) (es : List Entry) (rs lent : List ℕ) (flags : List Bool)
-    → Carried lent (store_of s rs es) (write_outcome (Refused r) (bitmap_after flags lent) lent (store_of s rs es))
-    (refused_look r)
-refused-left r s es rs lent flags = rw (refused r) (refl, copied_none no_bits lent, refl)
+refused-left : (r : Refusal) (next lent : List ℕ) (st : Store)
+    → Leaves lent st (write_outcome (Refused r) next lent st) (Err r)
+refused-left r next lent st = rw (refused r) (refl, refl, refl)
 
 -- the flags' bytes in 64 of 0, copied over those lent
 copied-bits : (flags : List Bool) (lent : List ℕ) (rows : ℕ) → length flags ≡ rows → bytes_for rows ≤ 64
@@ -106,11 +102,10 @@ module _ (s : State) (es : List Entry) (rs : List ℕ) (ok : StoreOk (store_of s
       flags-rows = length-flags (sees_of r (manager_in s)) (applies_of r (manager_in s)) (spans_at p (store_of s rs es))
           ∙ sym (ok.partition p h).row_count
 
-      ones-are : (scanned v deps (area_at es (partition_of p s)) (partition_of p s).rows no_bits).ones
+      ones-are : scanned v deps (area_at es (partition_of p s)) (partition_of p s).rows no_bits
           ≡ ones (flags_at r p (store_of s rs es))
       ones-are = let q = partition_of p s in
-          ap (λ x. x.ones) (scanned-spans v deps (area_at es q) q.rows no_bits (rows_at p (store_of s rs es)) scans
-          words)
+          scanned-spans v deps (area_at es q) q.rows no_bits (rows_at p (store_of s rs es)) scans words
           ∙ ap ones same_flags
 
       bits_are : bitmap_scanned v deps (area_at es (partition_of p s)) (partition_of p s).rows no_bits
@@ -120,15 +115,16 @@ module _ (s : State) (es : List Entry) (rs : List ℕ) (ok : StoreOk (store_of s
           ∙ ap (λ f. bitmap_after f no_bits) same_flags
 
       scan-room : (lent : List ℕ)
-          → Carried lent (store_of s rs es) (write_outcome
+          → Leaves lent (store_of s rs es) (write_outcome
           (refuse ShortOutput (ltb (length lent) (bytes_for (partition_of p s).rows))
           (Scanned (partition_of p s).rows (ones (flags_at r p (store_of s rs es)))))
           (bitmap_after (flags_at r p (store_of s rs es)) lent) lent (store_of s rs es))
           (look_at (area_at es (partition_of p s)) (partition_of p s) v deps (length lent))
       unfolding look_at
       scan-room lent = let q = partition_of p s in let n = bytes_for q.rows in let st = store_of s rs es in
+          let next = bitmap_after (flags_at r p st) lent in
           split (ltb (length lent) n)
-          (λ t. rw t (refused-left ShortOutput s es rs lent (flags_at r p st)))
+          (λ t. rw t (refused-left ShortOutput next lent st))
           (λ f. rw (f, ones-are, bits_are) (
             refl,
             copied-bits (flags_at r p st) lent q.rows flags-rows (bytes_fit q.rows entries-facts.rows_fit)
@@ -136,31 +132,25 @@ module _ (s : State) (es : List Entry) (rs : List ℕ) (ok : StoreOk (store_of s
             refl,
           ))
 
-look-left : (s : State) → length s.partitions.at ≡ partitions_max → (es : List Entry) (rs lent : List ℕ) (p : ℕ)
-    (r : Reader) (v : View) (deps : List ℕ) → sees_view v deps ≡ sees_of r (manager_in s)
-    → Carried lent (store_of s rs es) (step (scan r p lent) (store_of s rs es))
-    (look_by (is_reader r (manager_in s)) v deps s (rest_in s es rs) (loaded_area es s.partitions p) (length lent) p)
-unfolding step scan_answer
-look-left s n es rs lent p r v deps sees = let st = store_of s rs es in let flags = flags_at r p st in
+-- a reader is shown what its view sees with its deps
+view-sees : (r : Reader) (m : Manager) → sees_view (view_of r m) (deps_of r m) ≡ sees_of r m
+unfolding sees_of sees_view
+view-sees (Rw i) m = refl
+view-sees (Ro t) m = refl
+
+pub scan-left : (s : State) → length s.partitions.at ≡ partitions_max → (es : List Entry) (rs lent : List ℕ) (p : ℕ)
+    (r : Reader)
+    → Leaves lent (store_of s rs es) (step (scan r p lent) (store_of s rs es))
+    (scan_plan r s (rest_in s es rs) (loaded_area es s.partitions p) (length lent) p)
+unfolding step scan_answer scan_plan
+scan-left s n es rs lent p r = let st = store_of s rs es in let m = manager_in s in
+    let next = bitmap_after (flags_at r p st) lent in
     rw (sound-is s es rs) (split (sound st)
     (λ t. let ok = (sound-facts st n t).shape in rw (t, loaded-area es ok.entries-length s.partitions p)
     (split (leb partitions_max p)
-    (λ u. rw u (refused-left UnknownPartition s es rs lent flags))
-    (λ u. split (is_reader r (manager_in s))
-    (λ o. rw (u, o) (scan-room s es rs ok p (leb-false partitions_max p u) r v deps sees lent))
-    (λ o. rw (u, o) (refused-left NotOpen s es rs lent flags)))))
-    (λ f. rw f (refused-left Unsound s es rs lent flags)))
-
--- ---- the two readers
-
-module _ (s : State) (n : length s.partitions.at ≡ partitions_max) (es : List Entry) (rs lent : List ℕ) (i p : ℕ)
-  where
-    pub rw-left : Carried lent (store_of s rs es) (step (scan (Rw i) p lent) (store_of s rs es))
-        (rw_look s (rest_in s es rs) (loaded_area es s.partitions p) (length lent) i p)
-    unfolding rw_look sees_of sees_view
-    rw-left = look-left s n es rs lent p (Rw i) (rw_view i) (deps_at i (manager_in s)) refl
-
-    pub ro-left : Carried lent (store_of s rs es) (step (scan (Ro i) p lent) (store_of s rs es))
-        (ro_look s (rest_in s es rs) (loaded_area es s.partitions p) (length lent) i p)
-    unfolding ro_look sees_of sees_view
-    ro-left = look-left s n es rs lent p (Ro i) (ro_view i (manager_in s)) [] refl
+    (λ u. rw u (refused-left UnknownPartition next lent st))
+    (λ u. split (is_reader r m)
+    (λ o. rw (u, o) (scan-room s es rs ok p (leb-false partitions_max p u) r (view_of r m) (deps_of r m)
+    (view-sees r m) lent))
+    (λ o. rw (u, o) (refused-left NotOpen next lent st)))))
+    (λ f. rw f (refused-left Unsound next lent st)))

@@ -1,24 +1,23 @@
 -- What append and clear decide by value is what step leaves. Definitions: plan_write/specs/Write.antt.
--- In order: a write carried out, a refusal, the entries of a plan, append, clear.
+-- In order: what a call leaves, a refusal, the entries of a plan, append, clear.
 -- Assumes nothing.
 use mathlib.Core.Path.{◌≡◌, refl, sym, ap, ◌∙◌}
-use mathlib.Core.Bool.{false}
-use mathlib.Core.List.{List, [], ◌∷◌}
-use Prim.Native.Nat.{ℕ, suc, ◌+◌, ◌-◌, ◌<◌}
+use mathlib.Core.List.{List}
+use Prim.Native.Nat.{ℕ, suc, ◌+◌, ◌-◌, ◌≤◌, ◌<◌}
 use native.Mathlib.Omega.{arith}
-use lib.ListN.{length, set, length-append, length-set}
-use lib.Seq.{set_out}
+use lib.ListN.{length, set, length-append}
 use lib.Dec.{ltb, leb, eqb}
 use mir.Val.{Val}
 use denote.Laws.{Is}
 use denote.Struct.Declared.{row}
-use borrow.Author.Tests.{eqb-true, ltb-true, leb-false}
+use borrow.Author.Tests.{eqb-true, ltb-true, ltb-false, leb-false}
+use Rattle.std.specs.Prelude.{Result, Ok, Err}
 use Rattle.lists.proofs.Laws.Bools.{split}
 use Rattle.rules.specs.Limits.{partitions_max, rows_max, entries_max}
 use Rattle.rules.specs.Manager.{has_open, manager_in}
 use Rattle.rules.specs.Span.{words_of}
 use Rattle.rules.specs.Append.{appended, cleared}
-use Rattle.rules.specs.Store.{with_partitions_in, Store, no_partition, spans_at, laid_in_place}
+use Rattle.rules.specs.Store.{Store, spans_at, laid_in_place}
 use Rattle.rules.specs.WellFormed.{sound}
 use Rattle.rules.specs.Calls.{refuse, append_answer, clear_answer}
 use Rattle.rules.specs.Step.{Outcome, outcome, step, append, clear}
@@ -31,24 +30,23 @@ use Rattle.rules.specs.declared.Entry.{Entry}
 use Rattle.rules.specs.declared.Partition.{Partition}
 use Rattle.rules.specs.declared.State.{State}
 use Rattle.rules.specs.contracts.State as state-type
-use Rattle.laws.proofs.Laws.Append.{words-appended, length-cleared}
+use Rattle.laws.proofs.Laws.Append.{words-appended}
 use Rattle.laws.proofs.Laws.Answers.{refused}
 use Rattle.laws.proofs.Laws.WellFormed.{StoreOk}
 use Rattle.laws.proofs.Laws.Totals.{sound-facts}
-use Rattle.lent.specs.Entries.{none, moved_end}
+use Rattle.lent.specs.Entries.{moved_end}
 use Rattle.partition.specs.Rows.{put_rows}
-use Rattle.partition.specs.Areas.{with_partition}
-use Rattle.partition.specs.Append.{full_if, last_of, kept_in, append_plan, clear_plan, written_by}
+use Rattle.partition.specs.Append.{last_of, kept_in, append_plan, written_by}
 use Rattle.partition.specs.declared.Plan.{Plan}
 use Rattle.partition.proofs.Laws.Places.{partitions_8}
-use Rattle.partition.proofs.Laws.Rows.{put_rows-out}
 use Rattle.partition.proofs.Laws.Rows.{put_rows-none}
-use Rattle.partition.proofs.Laws.Written.{in-range, append-full, append-written, append_moves, append-laid}
-use Rattle.partition.proofs.Laws.Written.{clear-full, clear-written, clear-laid}
+use Rattle.partition.proofs.Laws.Written.{in-range, append_of, append-decided, append-written, append_moves}
+use Rattle.partition.proofs.Laws.Written.{append-laid}
+use Rattle.partition.proofs.Laws.Written.{clear_of, clear-decided, clear-laid}
 use Rattle.area.specs.Load.{last_entry}
 use Rattle.area.proofs.Laws.Load.{last-entry-at}
 use Rattle.admit.specs.Admit.{partition_of}
-use Rattle.plan_write.specs.Write.{refused_write, planned_write, append_at, append_write, clear_at, clear_write}
+use Rattle.plan_write.specs.Write.{planned_write, append_at, append_write, clear_at, clear_write}
 use Rattle.plan_write.specs.Write.{entries_written}
 use Rattle.plan_write.specs.declared.Write.{Write}
 use Rattle.store.specs.Kept.{store_of, Left}
@@ -62,106 +60,77 @@ state_8 s vs g = partitions_8 s.partitions _ g.1.1.1.1.1.1.0
 pub totals_8 : (s : State) (vs : List Val) → Is (row state-type.the_type) s vs → length s.totals ≡ 8
 totals_8 s vs g = g.1.1.1.1.1.1.1.0.1.0.1
 
--- ---- a write carried out, with the batch bs
+-- what a call leaves, by what was decided, where what it answers and the rows that it leaves are those of a write
+abbrev pub Leaves : State → List Entry → List ℕ → (Write → Answer) → (Write → List ℕ) → Outcome → Result Write Refusal
+    → Type 0
+Leaves s es rs answer rows out (Ok w) =
+    Left out (record { state = done_write s w; answer = answer w }) (rows w) (entries_written es w)
+Leaves s es rs answer rows out (Err why) = Left out (record { state = s; answer = Refused why }) rs es
 
-abbrev pub Carried : State → List Entry → List ℕ → List ℕ → Outcome → Write → Type 0
-Carried s es rs bs out w = Left out (done_write s w) (put_rows w.row bs rs) (entries_written es w)
+-- the counts that the partition then has
+abbrev pub says_rows : Write → Answer
+says_rows w = Appended w.partition.rows
 
-put-past : (bs xs : List ℕ) → put_rows (length xs) bs xs ≡ xs
-put-past [] xs = put_rows-none (length xs) xs
-put-past (b ∷ bs) xs = put_rows-out (length xs) (b ∷ bs) xs (omega arith)
+abbrev pub says_entries : Write → Answer
+says_entries w = Cleared w.partition.entries
 
--- past the end no end moves
-unmoved : (es : List Entry) (n end : ℕ) → n ≡ length es → moved_end es n end ≡ es
-unmoved es n end e = set_out es n _ (omega arith)
+refused-left : (r : Refusal) (s : State) (es : List Entry) (rs : List ℕ) (answer : Write → Answer)
+    (rows : Write → List ℕ) (next : Store)
+    → Leaves s es rs answer rows (outcome (Refused r) next (store_of s rs es)) (Err r)
+refused-left r s es rs answer rows next = rw (refused r) (refl, refl)
 
--- a refusal writes no word
-module _ (s : State) (n : length s.partitions.at ≡ partitions_max) where
-  refused-left : (r : Refusal) (es : List Entry) (rs bs : List ℕ) (next : Store)
-      → Carried s es rs bs (outcome (Refused r) next (store_of s rs es)) (refused_write (length es) (length rs) r)
-  refused-left r es rs bs next =
-      let e = set_out es (length es) none (omega arith) in
-      rw (refused r) (
-        refl,
-        λ j. store_of
-            (with_partitions_in (record {
-              at = set_out s.partitions.at partitions_max no_partition (omega arith) j;
-              spare = s.partitions.spare;
-            }) s)
-            (put-past bs rs j) ((ap (λ (xs : List Entry). moved_end xs (length es) 0) e
-            ∙ unmoved es (length es) 0 refl) j),
-      )
-
--- ---- the entries that a plan puts
-
-module _ (es : List Entry) (p : ℕ) (q : Partition) (plan : Plan) (a : Answer) where
-  -- where the end of an entry moves, that entry is put
-  planned-entries : (plan.entries ≡ q.entries → moved_end es plan.index plan.entry.end
-      ≡ set es plan.index plan.entry)
-      → entries_written es (planned_write (length es) p q plan a) ≡ set es plan.index plan.entry
-  planned-entries moves = split (eqb plan.entries q.entries)
-      (λ t. rw (t, set_out es (length es) plan.entry (omega arith)) (moves (eqb-true plan.entries q.entries t)))
-      (λ f. rw f (unmoved (set es plan.index plan.entry) (length es) plan.entry.end
-      (sym (length-set es plan.index plan.entry))))
-
-  -- the rest of a plan, whichever of the two it is
-  planned-left : (s : State) (bs rs : List ℕ)
-      → store_of (done_write s (planned_write (length es) p q plan a)).state
-      (put_rows (planned_write (length es) p q plan a).row bs rs)
-      (entries_written es (planned_write (length es) p q plan a))
-      ≡ store_of (with_partitions_in (with_partition p
-      (record { area = q.area; rows = plan.rows; entries = plan.entries }) s.partitions) s)
-      (put_rows plan.row bs rs) (entries_written es (planned_write (length es) p q plan a))
-  planned-left s bs rs = split (eqb plan.entries q.entries) (λ t. rw t) (λ f. rw f)
-
-  planned-answer : (planned_write (length es) p q plan a).answer ≡ a
-  planned-answer = split (eqb plan.entries q.entries) (λ t. rw t) (λ f. rw f)
+-- where the end of an entry moves, that entry is put
+planned-entries : (es : List Entry) (p : ℕ) (q : Partition) (plan : Plan)
+    → (plan.entries ≡ q.entries → moved_end es plan.index plan.entry.end ≡ set es plan.index plan.entry)
+    → entries_written es (planned_write p q plan) ≡ set es plan.index plan.entry
+planned-entries es p q plan moves = split (eqb plan.entries q.entries)
+    (λ t. rw t (moves (eqb-true plan.entries q.entries t)))
+    (λ f. rw f)
 
 -- ---- append
 
 module _ (s : State) (n : length s.partitions.at ≡ partitions_max) (es : List Entry) (rs : List ℕ)
     (ok : StoreOk (store_of s rs es)) (p : ℕ) (h : p < partitions_max) (i : ℕ) where
   abbrev plan_of : List ℕ → Plan
-  plan_of bs = append_plan (last_of es (partition_of p s)) (partition_of p s) i (length bs)
+  plan_of bs = append_of (store_of s rs es) ok p h i bs
 
-  append-fits : (bs : List ℕ) → (plan_of bs).full ≡ full_if false false
-      → Carried s es rs bs (outcome (Appended ((partition_of p s).rows + length bs))
+  append-fits : (bs : List ℕ) → length bs ≤ rows_max - (partition_of p s).rows
+      → length (appended i bs (spans_at p (store_of s rs es))) ≤ entries_max
+      → Leaves s es rs says_rows (λ w. put_rows w.row bs rs) (outcome (Appended ((partition_of p s).rows + length bs))
       (laid_in_place p (appended i bs (spans_at p (store_of s rs es))) (store_of s rs es)) (store_of s rs es))
-      (planned_write (length es) p (partition_of p s) (plan_of bs) (Appended (plan_of bs).rows))
+      (Ok (planned_write p (partition_of p s) (plan_of bs)))
   unfolding written_by
-  append-fits bs full =
-      let st = store_of s rs es in let w = append-written st ok p h i bs full in
-      let c = (ok.partition p h).row_count in let q = partition_of p s in let a = Appended (plan_of bs).rows in
+  append-fits bs r n =
+      let st = store_of s rs es in let w = append-written st ok p h i bs r n in
+      let c = (ok.partition p h).row_count in let q = partition_of p s in
       let e : length (words_of (appended i bs (spans_at p st))) ≡ (partition_of p s).rows + length bs =
       rw (words-appended i bs (spans_at p st)) (simp length-append (omega arith)) in
-      rw (append-laid st ok p h i bs full) (
-        planned-answer es p q (plan_of bs) a ∙ ap Appended (sym w.row_count ∙ e),
-        planned-left es p q (plan_of bs) a s bs rs
-            ∙ ap (store_of _ _) (planned-entries es p q (plan_of bs) a (append_moves st ok p h i bs full)),
+      rw (append-laid st ok p h i bs r n) (
+        ap Appended (sym w.row_count ∙ e),
+        ap (store_of _ _) (planned-entries es p q (plan_of bs) (append_moves st ok p h i bs)),
       )
 
   append-room : (bs : List ℕ)
-      → Carried s es rs bs (outcome
+      → Leaves s es rs says_rows (λ w. put_rows w.row bs rs) (outcome
       (refuse RowsFull (ltb (rows_max - (partition_of p s).rows) (length bs))
       (refuse EntriesFull (ltb entries_max (length (appended i bs (spans_at p (store_of s rs es)))))
       (Appended ((partition_of p s).rows + length bs))))
       (laid_in_place p (appended i bs (spans_at p (store_of s rs es))) (store_of s rs es)) (store_of s rs es))
-      (append_at (last_of es (partition_of p s)) (length es) (length rs) (length bs) i p (partition_of p s))
+      (append_at (last_of es (partition_of p s)) (length bs) i p (partition_of p s))
   append-room bs =
-      let st = store_of s rs es in let e = append-full st ok p h i bs in
-      let next = laid_in_place p (appended i bs (spans_at p st)) st in
-      split (ltb (rows_max - (partition_of p s).rows) (length bs))
-      (λ t. rw (ap (λ x. x.rows) e ∙ t, t) (refused-left s n RowsFull es rs bs next))
-      (λ f. split (ltb entries_max (length (appended i bs (spans_at p st))))
-      (λ t. rw (ap (λ x. x.rows) e ∙ f, f, ap (λ x. x.entries) e ∙ t, t)
-      (refused-left s n EntriesFull es rs bs next))
-      (λ g. rw (ap (λ x. x.rows) e ∙ f, f, ap (λ x. x.entries) e ∙ g, g)
-      (append-fits bs (e ∙ (λ j. full_if (f j) (g j))))))
+      let st = store_of s rs es in let ss = appended i bs (spans_at p st) in
+      let room = rows_max - (partition_of p s).rows in
+      let no = λ (r : Refusal). refused-left r s es rs says_rows (λ w. put_rows w.row bs rs) (laid_in_place p ss st) in
+      rw (append-decided st ok p h i bs) (split (ltb room (length bs))
+      (λ t. rw t (no RowsFull))
+      (λ f. split (ltb entries_max (length ss))
+      (λ t. rw (f, t) (no EntriesFull))
+      (λ g. rw (f, g) (append-fits bs (ltb-false room (length bs) f) (ltb-false entries_max (length ss) g)))))
 
   -- the entry that a call loads is the partition's last one, where it has one
   last-same : (k : ℕ) → append_plan (last_entry es s.partitions p) (partition_of p s) i k
       ≡ append_plan (last_of es (partition_of p s)) (partition_of p s) i k
-  unfolding append_plan kept_in
+  unfolding append_plan
   last-same k = let q = partition_of p s in let r = in-range (store_of s rs es) ok p h in
       split (ltb 0 q.entries)
       (λ t. ap (λ (e : Entry). append_plan e q i k) (last-entry-at es ok.entries-length s.partitions p
@@ -170,71 +139,60 @@ module _ (s : State) (n : length s.partitions.at ≡ partitions_max) (es : List 
 
 pub append_left : (s : State) → length s.partitions.at ≡ partitions_max → (es : List Entry) (rs bs : List ℕ)
     (i p : ℕ)
-    → Carried s es rs bs (step (append i p bs) (store_of s rs es))
-    (append_write s (rest_in s es rs) (last_entry es s.partitions p) (length es) (length rs) (length bs) i p)
+    → Leaves s es rs says_rows (λ w. put_rows w.row bs rs) (step (append i p bs) (store_of s rs es))
+    (append_write s (rest_in s es rs) (last_entry es s.partitions p) (length bs) i p)
 unfolding step append_answer append_write
 append_left s n es rs bs i p = let st = store_of s rs es in
-    let next = laid_in_place p (appended i bs (spans_at p st)) st in rw (sound-is s es rs) (split (sound st)
+    let next = laid_in_place p (appended i bs (spans_at p st)) st in
+    let no = λ (r : Refusal). refused-left r s es rs says_rows (λ w. put_rows w.row bs rs) next in
+    rw (sound-is s es rs) (split (sound st)
     (λ t. let ok = (sound-facts st n t).shape in rw t (split (leb partitions_max p)
-    (λ u. rw u (refused-left s n UnknownPartition es rs bs next))
+    (λ u. rw u (no UnknownPartition))
     (λ u. let h = leb-false partitions_max p u in split (has_open i (manager_in s))
     (λ o. rw (u, o, last-same s n es rs ok p h i (length bs)) (append-room s n es rs ok p h i bs))
-    (λ o. rw (u, o) (refused-left s n NotOpen es rs bs next)))))
-    (λ f. rw f (refused-left s n Unsound es rs bs next)))
+    (λ o. rw (u, o) (no NotOpen)))))
+    (λ f. rw f (no Unsound)))
 
 -- ---- clear
 
 module _ (s : State) (n : length s.partitions.at ≡ partitions_max) (es : List Entry) (rs : List ℕ)
     (ok : StoreOk (store_of s rs es)) (p : ℕ) (h : p < partitions_max) (i : ℕ) where
-  clear-fits : (clear_plan (partition_of p s) i).full ≡ full_if false false
-      → Carried s es rs [] (outcome (Cleared (suc (partition_of p s).entries))
+  clear-fits : (partition_of p s).entries < entries_max
+      → Leaves s es rs says_entries (λ w. rs) (outcome (Cleared (suc (partition_of p s).entries))
       (laid_in_place p (cleared i (spans_at p (store_of s rs es))) (store_of s rs es)) (store_of s rs es))
-      (planned_write (length es) p (partition_of p s) (clear_plan (partition_of p s) i)
-      (Cleared (clear_plan (partition_of p s) i).entries))
+      (Ok (planned_write p (partition_of p s) (clear_of (store_of s rs es) ok p h i)))
   unfolding written_by
-  clear-fits full =
-      let st = store_of s rs es in let w = clear-written st ok p h i full in let q = partition_of p s in
-      let c = (ok.partition p h).entry-count in let l = length-cleared i (spans_at p st) in let k = w.entry-count in
-      let e : (clear_plan q i).entries ≡ suc q.entries = omega arith in
-      let a = Cleared (clear_plan q i).entries in
-      rw (clear-laid st ok p h i full) (
-        planned-answer es p q (clear_plan q i) a ∙ ap Cleared e,
-        planned-left es p q (clear_plan q i) a s [] rs
-            ∙ ap (store_of _ _) (planned-entries es p q (clear_plan q i) a (λ same. absurd (omega arith))),
+  clear-fits f =
+      let st = store_of s rs es in let q = partition_of p s in let plan = clear_of st ok p h i in
+      let e : plan.entries ≡ suc q.entries = omega arith in
+      rw (clear-laid st ok p h i f, put_rows-none plan.row rs) (
+        ap Cleared e,
+        ap (store_of _ _) (planned-entries es p q plan (λ same. absurd (omega arith))),
       )
 
-  clear_room : Carried s es rs [] (outcome
+  clear_room : Leaves s es rs says_entries (λ w. rs) (outcome
       (refuse EntriesFull (leb entries_max (partition_of p s).entries) (Cleared (suc (partition_of p s).entries)))
       (laid_in_place p (cleared i (spans_at p (store_of s rs es))) (store_of s rs es)) (store_of s rs es))
-      (clear_at (length es) (length rs) i p (partition_of p s))
+      (clear_at i p (partition_of p s))
   clear_room =
-      let st = store_of s rs es in let e = clear-full st ok p h i in
-      split (leb entries_max (partition_of p s).entries)
-      (λ t. rw (ap (λ x. x.entries) e ∙ t, t)
-      (refused-left s n EntriesFull es rs [] (laid_in_place p (cleared i (spans_at p st)) st)))
-      (λ f. rw (ap (λ x. x.entries) e ∙ f, f) (clear-fits (e ∙ ap (full_if false) f)))
-
-clear_carried : (s : State) → length s.partitions.at ≡ partitions_max → (es : List Entry) (rs : List ℕ) (i p : ℕ)
-    → Carried s es rs [] (step (clear i p) (store_of s rs es))
-    (clear_write s (rest_in s es rs) (length es) (length rs) i p)
-unfolding step clear_answer clear_write
-clear_carried s n es rs i p = let st = store_of s rs es in
-    let next = laid_in_place p (cleared i (spans_at p st)) st in rw (sound-is s es rs) (split (sound st)
-    (λ t. let ok = (sound-facts st n t).shape in rw t (split (leb partitions_max p)
-    (λ u. rw u (refused-left s n UnknownPartition es rs [] next))
-    (λ u. split (has_open i (manager_in s))
-    (λ o. rw (u, o) (clear_room s n es rs ok p (leb-false partitions_max p u) i))
-    (λ o. rw (u, o) (refused-left s n NotOpen es rs [] next)))))
-    (λ f. rw f (refused-left s n Unsound es rs [] next)))
+      let st = store_of s rs es in let n = (partition_of p s).entries in
+      rw (clear-decided st ok p h i) (split (leb entries_max n)
+      (λ t. rw t
+      (refused-left EntriesFull s es rs says_entries (λ w. rs) (laid_in_place p (cleared i (spans_at p st)) st)))
+      (λ f. rw f (clear-fits (leb-false entries_max n f))))
 
 -- a clearing writes no row
-pub clear-left : (s : State) → length s.partitions.at ≡ partitions_max → (es : List Entry) (rs : List ℕ) (i p :
-    ℕ)
-    → let w = clear_write s (rest_in s es rs) (length es) (length rs) i p in
-    Left (step (clear i p) (store_of s rs es)) (done_write s w) rs (entries_written es w)
-clear-left s n es rs i p = let c = clear_carried s n es rs i p in
-    let w = clear_write s (rest_in s es rs) (length es) (length rs) i p in (
-      c.0,
-      ap (λ (xs : List ℕ). store_of (done_write s w).state xs (entries_written es w)) (sym (put_rows-none w.row rs))
-          ∙ c.1,
-    )
+pub clear-left : (s : State) → length s.partitions.at ≡ partitions_max → (es : List Entry) (rs : List ℕ) (i p : ℕ)
+    → Leaves s es rs says_entries (λ w. rs) (step (clear i p) (store_of s rs es))
+    (clear_write s (rest_in s es rs) i p)
+unfolding step clear_answer clear_write
+clear-left s n es rs i p = let st = store_of s rs es in
+    let next = laid_in_place p (cleared i (spans_at p st)) st in
+    let no = λ (r : Refusal). refused-left r s es rs says_entries (λ w. rs) next in
+    rw (sound-is s es rs) (split (sound st)
+    (λ t. let ok = (sound-facts st n t).shape in rw t (split (leb partitions_max p)
+    (λ u. rw u (no UnknownPartition))
+    (λ u. split (has_open i (manager_in s))
+    (λ o. rw (u, o) (clear_room s n es rs ok p (leb-false partitions_max p u) i))
+    (λ o. rw (u, o) (no NotOpen)))))
+    (λ f. rw f (no Unsound)))

@@ -6,7 +6,7 @@ use Rattle.store.proofs.roll_back.Goals as goal
 
 pub returns : goal.returns
 returns c = let a = c.args in
-    rw (c.roll_back_done.ensures, c.roll_back_core-next.ensures, c.rest_of-r.ensures, c.ask_roll_back-asked.ensures)
+    rw (c.rewrite_done.ensures, c.roll_back_core-next.ensures, c.rest_of-r.ensures, c.ask_roll_back-asked.ensures)
     (roll-back-left a.state (state_8 a.state _ c.well_formed.0) (totals_8 a.state _ c.well_formed.0) a.entries.now
     a.rows.now a.a _ _ _
     (rw (

@@ -3,16 +3,16 @@
 -- In order: weight; the rows between two; the pass; what lands beside it.
 -- Assumes nothing.
 use mathlib.Core.Path.{◌≡◌, refl, ◌∙◌}
-use mathlib.Core.Bool.{true, false, ◌&&◌, cond}
+use mathlib.Core.Bool.{true, false, cond}
 use mathlib.Core.List.{List, [], ◌∷◌, ◌++◌, foldl}
-use Prim.Native.Nat.{ℕ, ◌+◌, ◌-◌, ◌*◌, ◌≤◌, ◌<◌}
+use Prim.Native.Nat.{ℕ, ◌+◌, ◌-◌, ◌*◌, ◌≤◌}
 use native.Mathlib.Omega.{arith}
 use lib.Dec.{leb}
 use lib.ListN.{length, take, drop, length-take}
 use lib.Seq.{take-add, drop-drop}
-use borrow.Author.Tests.{leb-true, le-leb, lt-leb}
+use borrow.Author.Tests.{leb-true, le-leb}
 use Rattle.lists.specs.Lists.{part}
-use Rattle.lists.proofs.Laws.Bools.{split, and-false}
+use Rattle.lists.proofs.Laws.Bools.{split}
 use Rattle.lists.proofs.Laws.Parts.{take_part, drop-take}
 use Rattle.rules.specs.Limits.{rows_max}
 use Rattle.rules.specs.Weight.{weight}
@@ -56,14 +56,10 @@ rows_most : (rs : List ℕ) (base a b : ℕ) → weight (rows_from rs base a b) 
 rows_most rs base a b = let m = weight_most (rows_from rs base a b) in
     let l = length-take (b - a) (drop (base + a) rs) in omega arith
 
-pub weighed-rows : (rs : List ℕ) (base a b : ℕ) → a ≤ b → b ≤ rows_max → base + b ≤ length rs
+weighed-rows : (rs : List ℕ) (base a b : ℕ) → a ≤ b → b ≤ rows_max → base + b ≤ length rs
     → weighed rs base a b ≡ weight (rows_from rs base a b)
 unfolding weighed
 weighed-rows rs base a b h k l = rw (le-leb a b h, le-leb b rows_max k, le-leb (base + b) (length rs) l)
-
-pub weighed-short : (rs : List ℕ) (base a b : ℕ) → length rs < base + b → weighed rs base a b ≡ 0
-unfolding weighed
-weighed-short rs base a b h = rw (lt-leb (base + b) (length rs) h, and-false (leb a b && leb b rows_max))
 
 -- ---- the pass
 

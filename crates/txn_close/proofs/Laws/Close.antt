@@ -30,9 +30,8 @@ use Rattle.txn.specs.Kept.{kept_of}
 use Rattle.txn.specs.Records.{writers_with, table_with, viewed, Tidy}
 use Rattle.txn.proofs.Laws.Records.{viewed_with, viewed-length, viewed-fit, tidy_with}
 use Rattle.txn.proofs.Laws.Cut.{drop-one, change-one}
-use Rattle.txn_find.specs.Find.{find_from, writer_at}
-use Rattle.txn_find.specs.declared.Found.{Found}
-use Rattle.txn_find.specs.declared.Found.TheVariants.{At, Nothing}
+use Rattle.txn_find.specs.Find.{writer_at}
+use Rattle.std.specs.Prelude.{Option, Some, None, position}
 use Rattle.txn_find.proofs.Laws.Find.{writer-found, writer-stands, writer-none}
 use Rattle.txn_find.proofs.Laws.Places.{Sized}
 use Rattle.txn_close.specs.Close.{lead, run_lce, first_open, books_with, closed_txns, settled_by, ended_by, table_by}
@@ -75,7 +74,7 @@ settled-are c ws fits closed q ds es a b e =
 -- ---- the transactions of a manager, with the one found at place j closed, are settled as the rules say
 
 module _ (m : Manager) (i : ℕ) {j : ℕ} (f : WriterFacts m.clock (writers_of m))
-    (at : find_from (opens i) (writers_of m) 0 ≡ At j) where
+    (at : position (opens i) (writers_of m) ≡ Some j) where
   closed_is : (waits : Bool) → closed_txns waits j i (writers_of m)
       ≡ cond waits (committed_txns i (writers_of m)) (dropped_txns i (writers_of m))
   unfolding committed_txns dropped_txns
@@ -120,16 +119,16 @@ module _ (s : State) (z : Sized (manager_in s)) (rest : Bool) (yes : rest && man
   abbrev next : Manager
   next = closed_manager waits i m
 
-  by-found : (r : Found) → r ≡ writer_at i s.writers
+  by-found : (r : Option ℕ) → r ≡ writer_at i s.writers
       → ended_in s (ended_by waits i s.clock s.writers (writers_of m) r) (table_by waits i (writers_of m) s.deps r)
       ≡ kept_of (close_answer i (rest && manager_ok m) m next) next s
   unfolding close_answer
-  by-found (At j) a = let ok = and_right rest (manager_ok m) yes in
+  by-found (Some j) a = let ok = and_right rest (manager_ok m) yes in
       let f = (manager-facts m ok).writers in let at = said (writer-found m i a) refl in
       let left : Manager → ℕ → Kept = λ n k. record { state = with_manager_in n s; answer = Closed n.clock.lce k } in
       (λ k. left (closed-settled m i f at waits k) (closed-oldest m i f at waits k))
       ∙ rw (yes, (writer-stands m i z a refl).any)
-  by-found Nothing a = rw (yes, (writer-none m i a refl).any)
+  by-found None a = rw (yes, (writer-none m i a refl).any)
 
   pub ended_is : let r = writer_at i s.writers in
       ended_in s (ended_by waits i s.clock s.writers (writers_of m) r) (table_by waits i (writers_of m) s.deps r)

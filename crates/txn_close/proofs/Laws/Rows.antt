@@ -5,10 +5,11 @@ use mathlib.Core.Path.{◌≡◌, refl, sym, ap, ◌∙◌}
 use mathlib.Core.List.{List, [], ◌∷◌, ◌++◌, map, map-append}
 use Prim.Native.Nat.{ℕ, zero, suc, ◌+◌, ◌-◌, ◌*◌, ◌≤◌, ◌<◌}
 use native.Mathlib.Omega.{arith}
-use lib.ListN.{length, take, drop, set, replicate, length-map, length-replicate}
-use lib.ListN.{replicate-append-replicate}
+use lib.ListN.{length, take, drop, set, replicate, length-map, length-replicate, length-take, length-drop}
+use lib.Seq.{drop-drop}
+use borrow.Rule.Slice.PartMut.{mid_of, put_mid}
 use Rattle.lists.specs.Lists.{gather, pad, over}
-use Rattle.lists.proofs.Laws.Over.{over-left, over-push}
+use Rattle.lists.proofs.Laws.Over.{over-left}
 use Rattle.lists.proofs.Laws.Parts.{length_over}
 use Rattle.lists.proofs.Laws.Places.{length-pad, replaced}
 use Rattle.lists.proofs.Laws.Select.{gather_append, length-rows, take-rows, drop-rows, set-rows}
@@ -40,14 +41,15 @@ module _ {A B : Type 0} (f : A → B) where
   map-cut : (a b : ℕ) (xs : List A) → map f (cut a b xs) ≡ cut a b (map f xs)
   map-cut a b xs = map-append f (take a xs) (drop b xs) ∙ (λ i. map-take a xs i ++ map-drop b xs i)
 
--- one 0 more of a row that is cleared
-pub zeros-next : (b k : ℕ) (ds : List ℕ) → b + k < length ds
-    → set (over b (replicate k 0) ds) (b + k) 0 ≡ over b (replicate (k + 1) 0) ds
-zeros-next b k ds h =
-    let n : length (replicate {A = ℕ} k 0) ≡ k = length-replicate k 0 in
-    let e : b + k ≡ b + length (replicate {A = ℕ} k 0) = omega arith in
-    ap (λ i. set (over b (replicate k 0) ds) i 0) e ∙ over-push b (replicate k 0) 0 ds (omega arith)
-    ∙ ap (λ xs. over b xs ds) (replicate-append-replicate {A = ℕ} k 1 0)
+-- a row that is filled with 0
+pub row-filled : (from n : ℕ) (ds zs : List ℕ) → from + n ≤ length ds
+    → zs ≡ replicate (length (mid_of from (from + n - from) ds)) 0
+    → put_mid from (from + n - from) ds zs ≡ over from (replicate n 0) ds
+row-filled from n ds zs h e =
+    let k : from + n - from ≡ n = omega arith in
+    let l : length (take n (drop from ds)) ≡ n = simp (length-take, length-drop) (omega arith) in
+    let r : length (replicate {A = ℕ} n 0) ≡ n = length-replicate n 0 in
+    rw (e, k, l, r, drop-drop n from ds)
 
 -- ---- the records and the table
 

@@ -16,7 +16,7 @@ returns c = let f = c.before in rw (sym f.find_reader.ensures ∙ c.in_default.i
 cut-readers_requires : tie.Need-cut_readers-left-requires
 cut-readers_requires c κs =
     let j = c in let f = j.before in let s = f.before in let ps = s.args.ps in
-    let w = (reader-stands_in ps _ (readers_32 ps _ s.well_formed.0) f.find_reader.ensures j.in-At.is).below in
+    let w = (reader-stands_in ps _ (readers_32 ps _ s.well_formed.0) f.find_reader.ensures j.in-Some.is).below in
     let p = s.requires.0 in
     ((omega arith, omega arith, p), s.requires.1)
 
@@ -24,7 +24,7 @@ returns_2 : tie.Need-returns
 unfolding ended_at
 returns_2 c =
     let j = c.before in let f = j.before in
-    rw (sym f.find_reader.ensures ∙ j.in-At.is, c.cut_readers-left.ensures)
+    rw (sym f.find_reader.ensures ∙ j.in-Some.is, c.cut_readers-left.ensures)
 
 pub end_at_spec : {M : Type 1} → statement M
 unfolding ended_at
@@ -38,7 +38,7 @@ end_at_spec =
     (λ c. let j = c in let f = j.before in let s = f.before in let ps = s.args.ps in
     omega (
       arith,
-      (reader-stands_in ps _ (readers_32 ps _ s.well_formed.0) f.find_reader.ensures j.in-At.is
+      (reader-stands_in ps _ (readers_32 ps _ s.well_formed.0) f.find_reader.ensures j.in-Some.is
           ).below,
     ))
     cut-readers_requires

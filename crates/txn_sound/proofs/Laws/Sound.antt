@@ -11,12 +11,12 @@ use native.Mathlib.Omega.{arith}
 use lib.Dec.{ltb, leb, eqb}
 use lib.ListN.{length, take, drop, get_or, length-take, length-drop}
 use lib.Seq.{drop-drop, length-take-le}
-use borrow.Author.Tests.{ltb-true, leb-true, eqb-true, lt-ltb, le-ltb, le-leb, eq-eqb}
+use borrow.Author.Tests.{ltb-true, leb-true, eqb-true, lt-ltb, le-ltb, eq-eqb}
 use Rattle.lists.specs.Lists.{any_of, all_of, rises}
 use Rattle.lists.proofs.Laws.Bools.{split, and-false, and_assoc, or-false}
 use Rattle.lists.proofs.Laws.Filter.{all_of-and}
 use Rattle.lists.proofs.Laws.Order.{rises-split}
-use Rattle.lists.proofs.Laws.Places.{used-next, used-end}
+use Rattle.lists.proofs.Laws.Places.{from_next}
 use Rattle.rules.specs.Limits.{writers_max, readers_max, deps_max, deps_all, last_ticket}
 use Rattle.rules.specs.Manager.{Writer, no_rw, manager_with, records_of, views, writers_of, readers_of, is_open}
 use Rattle.rules.specs.WellFormed.{zeros, room_ok, deps_ok, status_ok, unused_rw, spares_zero, writers_ok, readers_ok}
@@ -177,61 +177,17 @@ writers-are m l k = rw (eq-eqb (length m.deps) deps_all l) (split (leb m.writers
     (zeros (drop (deps_max * m.writers.count) m.deps)) e')))
     (λ f. rw f))
 
--- the loop: all records pass just where those from place i on pass, after one of epoch lo
-pub record Turn (c : Clock) (ts : RwTxns) (ds : List ℕ) (lo : ℕ) (seen : Bool) (i : ℕ) : Type 0 where
-  pub high : i ≤ ts.count
-  pub room : ts.count ≤ writers_max
-  pub len : length ts.at ≡ writers_max
-  pub words : length ds ≡ deps_all
-  pub left : writers_ranked c.lce c false ds (take ts.count ts.at)
-      ≡ writers_ranked lo c seen (drop (deps_max * i) ds) (drop i (take ts.count ts.at))
-
-module _ {c : Clock} {ts : RwTxns} {ds : List ℕ} {lo : ℕ} {seen : Bool} {i : ℕ} (T : Turn c ts ds lo seen i) where
-  abbrev it : RwTxn
-  it = get_or ts.at i no_rw
-
-  abbrev tested : Bool
-  tested = record_ok lo c seen (take deps_max (drop (deps_max * i) ds)) (get_or ts.at i no_rw)
-
-  turn : i < ts.count → writers_ranked c.lce c false ds (take ts.count ts.at)
-      ≡ tested && writers_ranked it.epoch c (seen || eqb it.waiting 0) (drop (deps_max * (i + 1)) ds)
-      (drop (i + 1) (take ts.count ts.at))
-  turn h = let r = T.room in let e : deps_max * i + deps_max ≡ deps_max * (i + 1) = omega arith in
-      T.left ∙ rw (
-        used-next ts.at ts.count writers_max T.len no_rw i (omega arith),
-        ← e,
-        ← drop-drop deps_max (deps_max * i) ds,
-      )
-
-  pub turn_stop : i < ts.count → tested ≡ false → false ≡ writers_tested c ts ds
-  unfolding writers_tested
-  turn_stop h f = sym (rw (eq-eqb (length ds) deps_all T.words, le-leb ts.count writers_max T.room, turn h, f))
-
-  pub turn_on : i < ts.count → tested ≡ true → Turn c ts ds it.epoch (seen || eqb it.waiting 0) (i + 1)
-  turn_on h t = record {
-    high = omega arith;
-    room = T.room;
-    len = T.len;
-    words = T.words;
-    left = turn h ∙ rw t;
-  }
-
-  pub turn_end : ts.count ≤ i
-      → writers_tested c ts ds ≡ all_of unused_rw (drop ts.count ts.at) && zeros (drop (deps_max * ts.count) ds)
-  unfolding writers_tested
-  turn_end h = let r = T.room in
-      rw (
-        eq-eqb (length ds) deps_all T.words,
-        le-leb ts.count writers_max T.room,
-        T.left,
-        used-end ts.at ts.count writers_max T.len i (omega arith),
-      )
-
--- the row of record i, as it is lent
-pub row-lent : {r : Bool} (lse epoch k i : ℕ) (ds : List ℕ)
-    → r ≡ row_ok lse epoch k (take (deps_max * i + deps_max - deps_max * i) (drop (deps_max * i) ds))
-    → r ≡ row_ok lse epoch k (take deps_max (drop (deps_max * i) ds))
-row-lent lse epoch k i ds e = let n : deps_max * i + deps_max - deps_max * i ≡ deps_max = omega arith in e ∙ rw n
+-- the record at place i of xs, with its row as it is lent, then those behind it
+pub turn : (c : Clock) (ds : List ℕ) (xs : List RwTxn) (lo : ℕ) (seen : Bool) (i : ℕ) {r : Bool} → i < length xs
+    → r ≡ record_ok lo c seen (take (deps_max * i + deps_max - deps_max * i) (drop (deps_max * i) ds))
+    (get_or xs i no_rw)
+    → let t = get_or xs i no_rw in
+    writers_ranked lo c seen (drop (deps_max * i) ds) (drop i xs)
+    ≡ r && writers_ranked t.epoch c (seen || eqb t.waiting 0) (drop (deps_max * (i + 1)) ds) (drop (i + 1) xs)
+turn c ds xs lo seen i h q =
+    let n : deps_max * i + deps_max - deps_max * i ≡ deps_max = omega arith in
+    let e : deps_max * i + deps_max ≡ deps_max * (i + 1) = omega arith in
+    rw (from_next xs no_rw i h, ← e, ← drop-drop deps_max (deps_max * i) ds, q, n)
 
 -- ---- read-only records
 

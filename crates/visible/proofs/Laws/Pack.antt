@@ -1,9 +1,9 @@
 -- Flags as bytes, one at a time. Definitions: rules' byte_of and packed.
--- In order: a bit, one more flag below the others, a byte's range; one more byte, stored; flags beyond the
+-- In order: one more flag below the others, a byte's range; one more byte, stored; flags beyond the
 -- rows.
 -- Assumes nothing.
 use mathlib.Core.Path.{◌≡◌, refl}
-use mathlib.Core.Bool.{Bool, true, false, cond}
+use mathlib.Core.Bool.{Bool, false, cond}
 use mathlib.Core.List.{List, [], ◌∷◌, ◌++◌, append_assoc}
 use Prim.Native.Nat.{ℕ, zero, suc, ◌+◌, ◌-◌, ◌*◌, ◌≤◌, ◌<◌}
 use native.Mathlib.Omega.{arith}
@@ -13,10 +13,6 @@ use Rattle.rules.specs.Bitmap.{bytes_for, byte_of, packed, bitmap_after}
 use Rattle.laws.proofs.Laws.Bitmap.{byte_of-small, length-packed}
 
 -- ---- one byte
-
-pub bit_le : (b : Bool) → cond b 1 0 ≤ 1
-bit_le true = omega arith
-bit_le false = omega arith
 
 pub byte-cons : (bs : List Bool) (i m : ℕ) → i < length bs
     → byte_of (take (suc m) (drop i bs)) ≡ cond (get_or bs i false) 1 0 + 2 * byte_of (take m (drop (suc i) bs))

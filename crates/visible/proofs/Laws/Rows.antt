@@ -1,32 +1,24 @@
 -- Flags laid row by row. Definitions: specs/Flags.antt, specs/Passes.antt, and rules' flags_by.
--- In order: one more flag of a fill; how many flags are true; the flags of an entry; entries one by one.
+-- In order: how many flags are true; the flags of an entry; entries one by one.
 -- Assumes nothing.
 use mathlib.Core.Path.{◌≡◌, refl, sym, ap, ◌∙◌}
 use mathlib.Core.Bool.{Bool, true, false, not, ◌&&◌, cond}
-use mathlib.Core.List.{List, [], ◌∷◌, ◌++◌, append_assoc, append-nil}
+use mathlib.Core.List.{List, ◌∷◌, ◌++◌, append_assoc, append-nil}
 use Prim.Native.Nat.{ℕ, zero, suc, ◌+◌, ◌-◌, ◌≤◌, ◌<◌}
 use native.Mathlib.Numerals.{add-one}
 use native.Mathlib.Omega.{arith}
-use lib.ListN.{length, take, drop, set, replicate, length-replicate, replicate-append-replicate}
+use lib.ListN.{length, take, drop, get_or, replicate, length-replicate}
 use lib.Seq.{take-length}
 use borrow.Author.Tests.{eqb-true}
+use Rattle.std.proofs.lemmas.List.{drop_more, drop_all}
 use Rattle.lists.specs.Lists.{over, ones}
-use Rattle.lists.proofs.Laws.Over.{over-push}
 use Rattle.lists.proofs.Laws.Parts.{length_over, take-over}
 use Rattle.rules.specs.declared.Entry.{Entry}
 use Rattle.rules.specs.WellFormed.{ends_ok}
 use Rattle.laws.proofs.Laws.Span.{EndOk, end-ok, ends_ok-le}
 use Rattle.rules.specs.Top.{Top, covers, flags_by}
 use Rattle.rules.specs.Bare.{bare}
-
--- ---- one more flag of a fill
-
-pub fill-next : (bs : List Bool) (from to : ℕ) (b : Bool) → from ≤ to → to < length bs
-    → set (over from (replicate (to - from) b) bs) to b ≡ over from (replicate (to + 1 - from) b) bs
-fill-next bs from to b h l = let k = to - from in let n = length-replicate k b in
-    let e : to ≡ from + length (replicate k b) = omega arith in let m : k + 1 ≡ to + 1 - from = omega arith in
-    ap (λ j. set (over from (replicate k b) bs) j b) e
-    ∙ (over-push from (replicate k b) b bs (omega arith) ∙ rw (replicate-append-replicate {A = Bool} k 1 b, m))
+use Rattle.lent.specs.Entries.{none}
 
 -- ---- how many flags are true
 
@@ -59,27 +51,28 @@ module _ (s : ℕ → Bool) (top : Top) (es : List Entry) where
     pub counted : ones (flags_by s top 0 (bare 0 es)) ≡ count + ones (flags_by s top i (bare from (drop i es)))
     pub laid : flags_by s top 0 (bare 0 es) ≡ take from shown ++ flags_by s top i (bare from (drop i es))
 
-  -- the turn of entry e: b says whether its rows are shown, r of its flags are true
+  -- the turn of entry e: b says whether its rows are shown, n flags are true after it
   pub record Turn (i from count : ℕ) (shown : List Bool) (e : Entry) : Type 0 where
     pub low : from ≤ e.end
     pub high : e.end ≤ length shown
-    pub next : (b : Bool) (r : ℕ) (next : List Bool) → b ≡ shown_at s top i e → r ≡ cond b (e.end - from) 0
-        → next ≡ over from (replicate (e.end - from) b) shown → Laid (i + 1) e.end (count + r) next
+    pub next : (b : Bool) (n : ℕ) (next : List Bool) → b ≡ shown_at s top i e → n ≡ count + cond b (e.end - from) 0
+        → next ≡ over from (replicate (e.end - from) b) shown → Laid (i + 1) e.end n next
 
   pub laid_none : (shown : List Bool) → ends_ok (length shown) 0 es ≡ true → Laid 0 0 0 shown
   laid_none shown h = record { ends = h; few = omega arith; counted = omega arith; laid = refl }
 
-  module _ (i from count : ℕ) (shown : List Bool) (m : Laid i from count shown) (e : Entry)
-      (d : drop i es ≡ e ∷ drop (i + 1) es) where
+module _ {s : ℕ → Bool} {top : Top} {es : List Entry} {i from count : ℕ} {shown : List Bool}
+    (o : Laid s top es i from count shown) where
+  module _ (e : Entry) (d : drop i es ≡ e ∷ drop (i + 1) es) where
     entry-ok : EndOk (length shown) from e (drop (i + 1) es)
-    entry-ok = end-ok (length shown) from e (drop (i + 1) es) (rw d at m.ends)
+    entry-ok = end-ok (length shown) from e (drop (i + 1) es) (rw d at o.ends)
 
     entry-within : e.end ≤ length shown
     entry-within = ends_ok-le (length shown) e.end (drop (i + 1) es) entry-ok.rest
 
-    laid_next : (b : Bool) (r : ℕ) (next : List Bool) → b ≡ shown_at s top i e → r ≡ cond b (e.end - from) 0
-        → next ≡ over from (replicate (e.end - from) b) shown → Laid (i + 1) e.end (count + r) next
-    laid_next b r next eb er en =
+    laid_next : (b : Bool) (n : ℕ) (next : List Bool) → b ≡ shown_at s top i e → n ≡ count + cond b (e.end - from) 0
+        → next ≡ over from (replicate (e.end - from) b) shown → Laid s top es (i + 1) e.end n next
+    laid_next b m next eb em en =
         let k = e.end - from in let low = entry-ok.low in let high = entry-within in
         let rest = flags_by s top (i + 1) (bare e.end (drop (i + 1) es)) in
         let here : flags_by s top i (bare from (drop i es)) ≡ replicate k b ++ rest =
@@ -90,17 +83,18 @@ module _ (s : ℕ → Bool) (top : Top) (es : List Entry) where
         ap (λ (j : ℕ). take j next) end ∙ rw en (take-over from (replicate k b) shown fits) in
         record {
           ends = rw (en, length_over from (replicate k b) shown fits) entry-ok.rest;
-          few = omega (arith, cond-le b k, er, m.few, low);
-          counted = m.counted ∙ rw (here, ones_fill k b rest, er) (omega arith);
-          laid = m.laid ∙ rw (here, front) (sym (append_assoc (take from shown) (replicate k b) rest));
+          few = omega (arith, cond-le b k, em, o.few, low);
+          counted = o.counted ∙ rw (here, ones_fill k b rest, em) (omega arith);
+          laid = o.laid ∙ rw (here, front) (sym (append_assoc (take from shown) (replicate k b) rest));
         }
 
-    pub laid-turn : Turn i from count shown e
-    laid-turn = record { low = entry-ok.low; high = entry-within; next = laid_next }
+  pub laid-turn : i < length es → Turn s top es i from count shown (get_or es i none)
+  laid-turn h = let e = get_or es i none in let d = drop_more es i none h in
+      record { low = (entry-ok e d).low; high = entry-within e d; next = laid_next e d }
 
-  pub laid-all : (i from count : ℕ) (shown : List Bool) → Laid i from count shown → drop i es ≡ []
+  pub laid-all : length es ≤ i
       → (count ≡ ones (flags_by s top 0 (bare 0 es))) × (shown ≡ flags_by s top 0 (bare 0 es))
   unfolding ends_ok bare flags_by
-  laid-all i from count shown m d =
-      let h : from ≡ length shown = eqb-true from (length shown) (rw d at m.ends) in
-      (sym (m.counted ∙ rw d (omega arith)), sym (m.laid ∙ rw (d, h, take-length shown, append-nil shown)))
+  laid-all h = let d = drop_all i es h in
+      let all : from ≡ length shown = eqb-true from (length shown) (rw d at o.ends) in
+      (sym (o.counted ∙ rw d (omega arith)), sym (o.laid ∙ rw (d, all, take-length shown, append-nil shown)))

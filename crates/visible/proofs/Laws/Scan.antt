@@ -38,7 +38,7 @@ module _ (v : View) (deps : List ℕ) (t : Area) (rows : ℕ) (lent ws : List �
   unfolding scan_ok
   same_flags = flags-entries (sees_view v deps) (sees_view v deps) rows (entries_in t) (and_left _ _ ok) ws l
 
-  pub scanned-spans : scanned v deps t rows lent ≡ record { ones = ones (span_flags v deps t ws) }
+  pub scanned-spans : scanned v deps t rows lent ≡ ones (span_flags v deps t ws)
   unfolding scanned
   scanned-spans = rw (ok, same_flags)
 

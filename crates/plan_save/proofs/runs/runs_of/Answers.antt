@@ -19,19 +19,19 @@ place-below s = split (ltb s.at words_max) (λ y. rw y (ltb-true s.at words_max 
 
 pub loop-p-init : goal.loop-p-init
 unfolding laid_below
-loop-p-init c = (omega arith, c.no_words-a.ensures)
+loop-p-init c = c.no_words-a.ensures
 
 pub loop-i-init : goal.loop-i-init
 unfolding turned
 loop-i-init c = let f = c.sought_from-from.result in let z : f - f ≡ 0 = omega arith in
-    (omega arith, omega arith, rw (z, c.first_of-s.ensures) refl)
+    (omega arith, rw (z, c.first_of-s.ensures) refl)
 
-pub offset_bounds-a-k : goal.offset_bounds-a-k
-offset_bounds-a-k c = let b = place-below c.step-s.result in let e = c.place_in-k.ensures in
+pub offset_bounds-a-place_in : goal.offset_bounds-a-place_in
+offset_bounds-a-place_in c = let b = place-below c.step-s.result in let e = c.place_in.ensures in
     record { fits = omega (arith, b, e) }
 
-pub bounds-a-k : goal.bounds-a-k
-bounds-a-k c = let b = place-below c.step-s.result in let e = c.place_in-k.ensures in omega (arith, b, e)
+pub bounds-a-place_in : goal.bounds-a-place_in
+bounds-a-place_in c = let b = place-below c.step-s.result in let e = c.place_in.ensures in omega (arith, b, e)
 
 pub loop-i-preserved : goal.loop-i-preserved
 unfolding turned
@@ -39,13 +39,12 @@ loop-i-preserved c = let l = c.loop-i in let f = c.sought_from-from.result in
     let next : l.i + 1 - f ≡ suc (l.i - f) = omega arith in
     let here : f + (l.i - f) ≡ l.i = omega arith in (
       omega arith,
-      omega arith,
       rw (
         next,
         here,
-        ← l.invariant.2,
-        c.place_in-k.ensures,
-        c.word_of-w.ensures,
+        ← l.invariant.1,
+        c.place_in.ensures,
+        c.word_of.ensures,
         c.step-s.ensures,
         c.read_entry-x.ensures,
       ) refl,
@@ -54,19 +53,17 @@ loop-i-preserved c = let l = c.loop-i in let f = c.sought_from-from.result in
 pub loop-p-preserved : goal.loop-p-preserved
 unfolding laid_below
 loop-p-preserved c = let l = c.loop-i in let f = c.sought_from-from.result in
-    let all : l.i - f ≡ c.to_of-to.result - f = omega arith in (
-      omega arith,
-      rw (
-        ap (λ (x : Laid). x.words) l.invariant.2,
-        all,
-        add-one c.loop-p.p,
-        c.loop-p.invariant.1,
-        c.cut_of-cut.ensures,
-        c.find-top.ensures,
-        c.sought_from-from.ensures,
-        c.to_of-to.ensures,
-        c.place_of-q.ensures,
-        c.no_top-none.ensures,
-        c.page_at-reach.ensures,
-      ) refl,
-    )
+    let all : l.i - f ≡ c.to_of-to.result - f = omega arith in
+    rw (
+      ap (λ (x : Laid). x.words) l.invariant.1,
+      all,
+      add-one c.loop-p.p,
+      c.loop-p.invariant,
+      c.cut_of-cut.ensures,
+      c.find-top.ensures,
+      c.sought_from-from.ensures,
+      c.to_of-to.ensures,
+      c.partition_at-q.ensures,
+      c.no_top-none.ensures,
+      c.page_at-reach.ensures,
+    ) refl

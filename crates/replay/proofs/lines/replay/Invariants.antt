@@ -5,8 +5,8 @@ use Rattle.std.proofs.Common.{◌-◌, length}
 use Rattle.replay.proofs.Laws.Turn.{Inv}
 use Rattle.replay.proofs.lines.replay.Given as goal
 
-abbrev pub invariant-loop-numbers : goal.invariant-loop-numbers
-invariant-loop-numbers l =
+abbrev pub invariant-loop-at : goal.invariant-loop-at
+invariant-loop-at l =
     Inv l.input l.fn.state l.fn.table.at l.fn.rows l.fn.numbers l.fn.out (record {
       state = l.books;
       entries = l.entries;
@@ -16,5 +16,5 @@ invariant-loop-numbers l =
       at = l.at;
     })
 
-abbrev pub decreases-loop-numbers : goal.decreases-loop-numbers
-decreases-loop-numbers l = length l.input - l.at.used
+abbrev pub decreases-loop-at : goal.decreases-loop-at
+decreases-loop-at l = length l.input - l.at.used

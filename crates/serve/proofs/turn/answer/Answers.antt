@@ -6,12 +6,12 @@ use Rattle.store.specs.Kept.{store_of}
 use Rattle.serve.proofs.Laws.Turn.{used-end, answered-some, answered-none}
 use Rattle.serve.proofs.turn.answer.Goals as goal
 
-pub returns-then-used-eq0-clause-answered : goal.returns-then-used-eq0-clause-answered
-returns-then-used-eq0-clause-answered c =
+pub returns-then-r-eq0-clause-answered : goal.returns-then-r-eq0-clause-answered
+returns-then-r-eq0-clause-answered c =
     let a = c.args in let r = c.replay-r in let e = r.ensures in let p = c.requires.from_le_end in
     answered-none a.numbers.now a.out.now a.input.now (store_of a.s.state a.rows.now a.s.table.at)
     a.s.from a.end p.0 p.1 r.result.used r.result.written r.new.out _ e.used e.size e.bytes e.store
-    c.requires.roomy c.if-used-eq0.true c.keep_rest-held.new.buffer c.keep_rest-held.result
+    c.requires.roomy c.if-r-eq0.true c.keep_rest-held.new.buffer c.keep_rest-held.result
     c.keep_rest-held.ensures.size c.keep_rest-held.ensures.bytes _ refl refl refl
 
 pub overflow_add-result : goal.overflow_add-result

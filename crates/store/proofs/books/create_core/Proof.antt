@@ -27,7 +27,7 @@ returns_3 c =
     let f = c.before in
     let n = f.before in
     let s = n.before.before in
-    let w = start-at s.before.args.a _ (sym n.new.ensures ∙ f.in-At.is) in
+    let w = start-at s.before.args.a _ (sym n.new.ensures ∙ f.in-Some.is) in
     rw (
       sym s.lengths_ok.ensures ∙ not-false _ n.before.if-not-lengths_ok.false-raw,
       w.0,
