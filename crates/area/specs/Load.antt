@@ -36,9 +36,9 @@ last_index q =
     cond (ltb q.entries 1 || ltb entries_max q.entries || leb areas_max q.area) None
     (Some (entries_max * q.area + (q.entries - 1)))
 
--- the entry at such an index
+-- the entry at such an index; where there is none, that behind all areas, where more are lent than they have
 abbrev pub entry_at : List Entry → Option ℕ → Entry
-entry_at es None = none
+entry_at es None = get_or es (entries_max * areas_max) none
 entry_at es (Some i) = get_or es i none
 
 unfoldable pub last_entry : List Entry → Partitions → ℕ → Entry

@@ -133,13 +133,11 @@ fn last_index(ps: Partitions, p: u64) -> Option<usize>
     Some(ENTRIES_MAX * q.area + (q.entries - 1))
 }
 
-// The last lent entry of partition p, the blank one where there is none.
+// The last lent entry of partition p; where it has none, that behind all areas, blank where no more are lent than they
+// have: the definition last_entry holds that.
 #[tactic(auto, unfolding(crate::specs::Load::last_entry))]
 pub fn last_entry(entries: &[Entry], ps: Partitions, p: u64) -> Entry
     ensures { result ≡ last_entry entries.now ps p }
 {
-    match last_index(ps, p) {
-        Some(i) => read_entry(entries, i),
-        None => Entry::default(),
-    }
+    read_entry(entries, last_index(ps, p).unwrap_or(ENTRIES_LENT))
 }

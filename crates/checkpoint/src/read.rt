@@ -106,6 +106,7 @@ pub fn find(file: &[u8], last: u64) -> Result<Header, Refusal>
 {
     let mut h = no_header();
     let mut i: usize = 0;
+    // no `for`: no index is counted, each header says where the next one stands
     while HEADER_SIZE <= file.len() - i {
         let g = header_at(file, i);
         if !header_ok(last, h.epoch, g) {

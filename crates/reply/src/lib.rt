@@ -2,10 +2,10 @@
 #![tactic(auto)]
 
 ghost use Rattle.std.specs.Prelude.{◌≡◌};
-ghost use Rattle.rules.specs.Answers.{refusal_number, reply_of};
+ghost use Rattle.rules.specs.Answers.{reply_of};
 ghost use Rattle.reply.specs.Reply.{words_of, accepted};
 
-use rules::{Answer, Refusal};
+use rules::Answer;
 
 // The most values that an answer has.
 pub const VALUES_MAX: usize = 2;
@@ -16,24 +16,6 @@ pub struct ReplyWords {
     pub number: u64,
     pub values: [u64; VALUES_MAX],
     pub count: usize,
-}
-
-fn refusal_number(r: Refusal) -> u64
-    ensures { result ≡ refusal_number r }
-{
-    match r {
-        Refusal::UnknownPartition => 1,
-        Refusal::NotOpen => 2,
-        Refusal::ShortOutput => 3,
-        Refusal::OutOfRange => 4,
-        Refusal::Unsound => 5,
-        Refusal::Exhausted => 6,
-        Refusal::TxnsFull => 7,
-        Refusal::RowsFull => 8,
-        Refusal::EntriesFull => 9,
-        Refusal::Blocked => 10,
-        Refusal::Corrupt => 11,
-    }
 }
 
 // Accepted, with the first `count` of the values.
@@ -66,7 +48,7 @@ impl From<Answer> for ReplyWords {
             Answer::Saved { bytes } => said([bytes as u64, 0], 1),
             Answer::Recovered => said([0, 0], 0),
             Answer::Refused(r) => ReplyWords {
-                number: refusal_number(r),
+                number: u64::from(r),
                 values: [0, 0],
                 count: 0,
             },
