@@ -1,8 +1,9 @@
 -- What append and clear write: one entry, and a batch of rows behind the partition's last. 01 "Lots", Append, Clear.
--- In order: words in range, why there is no room, nothing written, one entry placed, append, clear, a plan carried out.
+-- In order: words in range, why there is no room, nothing written, one entry placed, room, append, clear, a plan
+-- carried out.
 -- Laws: proofs/Laws/Append.antt (a plan carried out leaves rules' laid_in_place), proofs/Laws/Plan.antt.
 -- Assumes nothing.
-use Rattle.std.specs.Prelude.{Bool, not, ◌&&◌, cond, List, ℕ, ◌+◌, ◌-◌, ◌*◌, get_or, set, ltb, leb}
+use Rattle.std.specs.Prelude.{Bool, true, false, not, ◌&&◌, ◌||◌, cond, List, ℕ, ◌+◌, ◌-◌, ◌*◌, get_or, set, ltb, leb}
 use Rattle.std.specs.Prelude.{eqb, Result, Ok, Err}
 use Rattle.rules.specs.Limits.{areas_max, rows_max, entries_max}
 use Rattle.rules.specs.Store.{Store, partition_at, with_partitions_in}
@@ -14,16 +15,18 @@ use Rattle.partition.specs.Rows.{put_rows}
 use Rattle.rules.specs.declared.Refusal.{Refusal}
 use Rattle.rules.specs.declared.Refusal.TheVariants.{RowsFull, EntriesFull}
 use Rattle.partition.specs.declared.Full.{Full}
-use Rattle.partition.specs.declared.Full.TheVariants.{Rows, Entries}
 use Rattle.partition.specs.declared.Plan.{Plan}
 
 -- an area of the nine, at most 512 rows and 64 entries
 unfoldable pub in_range : Partition → Bool
 in_range q = ltb q.area areas_max && leb q.rows rows_max && leb q.entries entries_max
 
+abbrev pub full_if : Bool → Bool → Full
+full_if rows entries = record { rows = rows; entries = entries }
+
+-- 8 before 9
 abbrev pub refusal_of : Full → Refusal
-refusal_of Rows = RowsFull
-refusal_of Entries = EntriesFull
+refusal_of full = cond full.rows RowsFull EntriesFull
 
 -- nothing is written: index and row stand past the last
 abbrev pub stays : Partition → Plan
@@ -45,6 +48,10 @@ placed n q row e = record {
   entries = n + 1;
 }
 
+-- the plan, but where there is no room for the rows or for an entry
+abbrev pub where_room : Bool → Bool → Plan → Result Plan Full
+where_room rows entries plan = cond (rows || entries) (Err (full_if rows entries)) (Ok plan)
+
 -- ---- append
 
 -- the end of a rows entry of the same transaction moves
@@ -61,24 +68,22 @@ kept_in last q i = cond (ltb 0 q.entries && grows i last) (q.entries - 1) q.entr
 
 -- k rows behind the last, with an entry behind the first n
 unfoldable pub append_at : ℕ → Partition → ℕ → ℕ → Result Plan Full
-append_at n q i k =
-    cond (ltb (rows_max - q.rows) k) (Err Rows)
-    (cond (leb entries_max n) (Err Entries)
-    (Ok (placed n q (rows_max * q.area + q.rows) (record { epoch = i; end = q.rows + k; mark = 0 }))))
+append_at n q i k = where_room (ltb (rows_max - q.rows) k) (leb entries_max n)
+    (placed n q (rows_max * q.area + q.rows) (record { epoch = i; end = q.rows + k; mark = 0 }))
 
 -- words out of range are taken for a full partition; a batch of no rows adds nothing
 unfoldable pub append_plan : Entry → Partition → ℕ → ℕ → Result Plan Full
 append_plan last q i k =
-    cond (not (in_range q)) (Err Rows)
+    cond (not (in_range q)) (Err (full_if true true))
     (cond (eqb k 0) (Ok (stays q)) (append_at (kept_in last q i) q i k))
 
 -- ---- clear: always one entry, its end the row count
 
 unfoldable pub clear_plan : Partition → ℕ → Result Plan Full
 clear_plan q i =
-    cond (not (in_range q)) (Err Entries)
-    (cond (leb entries_max q.entries) (Err Entries)
-    (Ok (placed q.entries q (rows_max * areas_max) (record { epoch = i; end = q.rows; mark = 1 }))))
+    cond (not (in_range q)) (Err (full_if true true))
+    (where_room false (leb entries_max q.entries)
+    (placed q.entries q (rows_max * areas_max) (record { epoch = i; end = q.rows; mark = 1 })))
 
 -- ---- the store once a plan is carried out: the entry put, the batch copied, the partition's counts set
 

@@ -1,7 +1,7 @@
 // What append and clear write: one entry, and a batch of rows behind the partition's last. 01 "Lots", Append, Clear.
 ghost use Rattle.std.specs.Prelude.{◌≡◌, ◌≤◌, ◌<◌};
 ghost use Rattle.rules.specs.Limits.{areas_max, rows_max, entries_max};
-ghost use Rattle.partition.specs.Append.{in_range, grows, stays, placed, append_at, append_plan, clear_plan};
+ghost use Rattle.partition.specs.Append.{in_range, grows, full_if, stays, placed, append_at, append_plan, clear_plan};
 
 use crate::{Full, Plan};
 use rules::limits::{AREAS_MAX, ENTRIES_LENT, ENTRIES_MAX, ROWS_LENT, ROWS_MAX};
@@ -19,6 +19,13 @@ fn in_range(q: Partition) -> bool
         return false;
     }
     q.entries <= ENTRIES_MAX
+}
+
+// There is no room for the rows or for an entry.
+fn full(rows: bool, entries: bool) -> Full
+    ensures { result ≡ full_if rows entries }
+{
+    Full { rows, entries }
 }
 
 // There is nothing to write.
@@ -71,10 +78,10 @@ fn append_at(n: usize, q: Partition, i: u64, k: usize) -> Result<Plan, Full>
     ensures { result ≡ append_at n q i k }
 {
     if ROWS_MAX - q.rows < k {
-        return Err(Full::Rows);
+        return Err(full(true, ENTRIES_MAX <= n));
     }
     if ENTRIES_MAX <= n {
-        return Err(Full::Entries);
+        return Err(full(false, true));
     }
     let entry = Entry {
         epoch: i,
@@ -91,7 +98,7 @@ pub fn append_plan(last: Entry, q: Partition, i: u64, k: usize) -> Result<Plan, 
     ensures { result ≡ append_plan last q i k }
 {
     if !in_range(q) {
-        return Err(Full::Rows);
+        return Err(full(true, true));
     }
     if k == 0 {
         return Ok(stay(q));
@@ -112,10 +119,10 @@ pub fn clear_plan(q: Partition, i: u64) -> Result<Plan, Full>
     ensures { result ≡ clear_plan q i }
 {
     if !in_range(q) {
-        return Err(Full::Entries);
+        return Err(full(true, true));
     }
     if ENTRIES_MAX <= q.entries {
-        return Err(Full::Entries);
+        return Err(full(false, true));
     }
     let entry = Entry {
         epoch: i,

@@ -11,20 +11,22 @@ pub mod append;
 pub mod areas;
 pub mod rows;
 
-// What there is no room for: the rows (01: 8), an entry that is needed (01: 9).
+// What there is no room for: the rows (01: 8), an entry that is needed (01: 9), or both.
 #[derive(Clone, Copy)]
-pub enum Full {
-    Rows,
-    Entries,
+pub struct Full {
+    pub rows: bool,
+    pub entries: bool,
 }
 
+// Where there is room for neither, the rows say it (01: 8 before 9).
 impl From<Full> for Refusal {
     ghost from_gives = { λ full why. why ≡ refusal_of full };
 
     fn from(full: Full) -> Refusal {
-        match full {
-            Full::Rows => Refusal::RowsFull,
-            Full::Entries => Refusal::EntriesFull,
+        if full.rows {
+            Refusal::RowsFull
+        } else {
+            Refusal::EntriesFull
         }
     }
 }

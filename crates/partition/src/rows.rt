@@ -15,5 +15,8 @@ pub fn put_rows(rows: &mut [u64], at: usize, batch: &[u64])
     if n - k < at {
         return;
     }
-    rows[at..at + k].copy_from_slice(batch);
+    // a loop: with `copy_from_slice` the static libraries would need memmove
+    for (j, x) in batch.iter().enumerate() {
+        rows[at + j] = *x;
+    }
 }

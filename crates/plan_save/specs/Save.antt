@@ -1,8 +1,8 @@
 -- What a save decides by value. 02 (v).
 -- In order: where the partitions' rows begin, their sizes, the plan of a save, the bytes written. Laws:
--- proofs/Laws/Save.antt, proofs/Laws/Planned.antt, and recovery/proofs/Laws/Save.antt.
+-- proofs/Laws/Written.antt, proofs/Laws/Planned.antt, and recovery/proofs/Laws/Save.antt.
 -- Assumes nothing.
-use Rattle.std.specs.Prelude.{Bool, Result, Ok, Err, not, ◌&&◌, cond, ℕ, zero, suc, ◌+◌, ◌-◌, ◌*◌, get_or, ltb}
+use Rattle.std.specs.Prelude.{Bool, Result, Ok, Err, not, ◌&&◌, cond, ℕ, zero, suc, ◌+◌, ◌-◌, ◌*◌, get_or, ltb, eqb}
 use mathlib.Core.List.{List, foldl, map}
 use Rattle.rules.specs.Limits.{rows_max, areas_max, partitions_max}
 use Rattle.rules.specs.Manager.{manager_in}
@@ -72,6 +72,8 @@ unfoldable pub lots_put : List ℕ → List ℕ → List ℕ → Put → ℕ →
 lots_put bases ws rows x zero = x
 lots_put bases ws rows x (suc p) = runs_put (get_or bases p 0) rows (words_at ws p) (lots_put bases ws rows x p)
 
+-- nothing of a plan of no bytes, which no save makes
 unfoldable pub save_written : Save → List ℕ → List ℕ → List ℕ
 save_written w rows out =
+    cond (eqb w.size 0) out
     (lots_put w.bases w.at rows (put_to header_size (header_put w.epoch w.counts out)) partitions_max).out

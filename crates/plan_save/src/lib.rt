@@ -161,11 +161,14 @@ fn put_lots(out: &mut [u8], start: usize, rows: &[u64], bases: [usize; PARTITION
     }
 }
 
-// The bytes of the plan to the front of the output, which is as long as the plan asks.
+// The bytes of the plan to the front of the output, which is as long as the plan asks; of a plan of no bytes nothing.
 #[tactic(auto, unfolding(crate::specs::Save::save_written))]
 pub fn write_checkpoint(out: &mut [u8], rows: &[u64], w: Save)
     ensures { out.new ≡ save_written w rows.now out.old }
 {
+    if w.size == 0 {
+        return;
+    }
     put_header(out, w.epoch, w.counts);
     put_lots(out, HEADER_SIZE, rows, w.bases, &w.at);
 }

@@ -5,7 +5,7 @@ use Rattle.std.specs.Prelude.{Bool, ◌&&◌, cond, List, ℕ, set, eqb, Result,
 use Rattle.rules.specs.Manager.{has_open, manager_in}
 use Rattle.rules.specs.WellFormed.{manager_ok}
 use Rattle.rules.specs.declared.Refusal.{Refusal}
-use Rattle.rules.specs.declared.Refusal.TheVariants.{NotOpen}
+use Rattle.rules.specs.declared.Refusal.TheVariants.{NotOpen, EntriesFull}
 use Rattle.rules.specs.declared.Entry.{Entry}
 use Rattle.rules.specs.declared.Partition.{Partition}
 use Rattle.rules.specs.declared.State.{State}
@@ -28,13 +28,13 @@ planned_write p q plan = record {
 }
 
 -- the write of a plan, or why there is none
-abbrev pub planned_by : ℕ → Partition → Result Plan Full → Result Write Refusal
-planned_by p q (Ok plan) = Ok (planned_write p q plan)
-planned_by p q (Err full) = Err (refusal_of full)
+abbrev pub planned_by : (Full → Refusal) → ℕ → Partition → Result Plan Full → Result Write Refusal
+planned_by why p q (Ok plan) = Ok (planned_write p q plan)
+planned_by why p q (Err full) = Err (why full)
 
 -- partition p, which is q with the last entry given: 8, 9
 abbrev pub append_at : Entry → ℕ → ℕ → ℕ → Partition → Result Write Refusal
-append_at last k i p q = planned_by p q (append_plan last q i k)
+append_at last k i p q = planned_by refusal_of p q (append_plan last q i k)
 
 -- 01's order: 5, 1, 2, 8, 9
 unfoldable pub append_write : State → Bool → Entry → ℕ → ℕ → ℕ → Result Write Refusal
@@ -42,9 +42,9 @@ append_write s rest last k i p =
     by_admission Err (λ q. cond (has_open i (manager_in s)) (append_at last k i p q) (Err NotOpen))
     (admitted (rest && manager_ok (manager_in s)) s.partitions p)
 
--- partition p, which is q: 9
+-- partition p, which is q: 9, whatever else there is no room for
 abbrev pub clear_at : ℕ → ℕ → Partition → Result Write Refusal
-clear_at i p q = planned_by p q (clear_plan q i)
+clear_at i p q = planned_by (λ full. EntriesFull) p q (clear_plan q i)
 
 -- 01's order: 5, 1, 2, 9
 unfoldable pub clear_write : State → Bool → ℕ → ℕ → Result Write Refusal

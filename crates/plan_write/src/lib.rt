@@ -87,7 +87,9 @@ pub fn append_core(
 fn clear_at(i: u64, p: usize, q: Partition) -> Result<Write, Refusal>
     ensures { result ≡ clear_at i p q }
 {
-    let plan = partition::append::clear_plan(q, i)?;
+    let Ok(plan) = partition::append::clear_plan(q, i) else {
+        return Err(Refusal::EntriesFull);
+    };
     Ok(planned(p, q, plan))
 }
 

@@ -77,7 +77,7 @@ fn closed(mut state: State, rest: bool, i: u64, waits: bool) -> Kept
     Kept { state, answer }
 }
 
-// Commit: the transaction of epoch i waits.
+// Commit: the transaction of epoch i waits. Refusals, in this order: 5, 2.
 pub fn commit(state: State, rest: bool, i: u64) -> Kept
     ensures { let m = manager_in state in let next = committed_manager i m in
         result ≡ kept_of (close_answer i (rest && manager_ok m) m next) next state }
@@ -85,7 +85,7 @@ pub fn commit(state: State, rest: bool, i: u64) -> Kept
     closed(state, rest, i, true)
 }
 
-// Roll back, but for the lots: the transaction of epoch i leaves no record.
+// Roll back, but for the lots: the transaction of epoch i leaves no record. Refusals, in this order: 5, 2.
 pub fn roll_back(state: State, rest: bool, i: u64) -> Kept
     ensures { let m = manager_in state in let next = rolled_back_manager i m in
         result ≡ kept_of (close_answer i (rest && manager_ok m) m next) next state }

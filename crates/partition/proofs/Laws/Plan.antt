@@ -2,16 +2,15 @@
 -- Definitions: specs/Append.antt.
 -- Assumes nothing.
 use mathlib.Core.Path.{◌≡◌}
-use mathlib.Core.Bool.{true}
+use mathlib.Core.Bool.{true, false}
 use Prim.Native.Nat.{ℕ, ◌*◌, ◌≤◌, ◌<◌}
 use borrow.Author.Tests.{lt-ltb, le-leb, eq-eqb, ne_eqb}
 use lib.Dec.{leb}
-use Rattle.std.specs.Prelude.{cond, Ok, Err}
-use Rattle.partition.specs.declared.Full.TheVariants.{Entries}
+use Rattle.std.specs.Prelude.{Ok}
 use Rattle.rules.specs.Limits.{areas_max, rows_max, entries_max}
 use Rattle.rules.specs.declared.Entry.{Entry}
 use Rattle.rules.specs.declared.Partition.{Partition}
-use Rattle.partition.specs.Append.{in_range, stays, kept_in, append_at, append_plan}
+use Rattle.partition.specs.Append.{in_range, where_room, stays, kept_in, append_at, append_plan}
 use Rattle.partition.specs.Append.{placed, clear_plan}
 
 -- ---- words in range
@@ -43,7 +42,7 @@ module _ (last : Entry) (q : Partition) (i k : ℕ) where
 
 module _ (q : Partition) (i : ℕ) where
   module _ (t : in_range q ≡ true) where
-    pub clear_plan-within : clear_plan q i ≡ cond (leb entries_max q.entries) (Err Entries)
-        (Ok (placed q.entries q (rows_max * areas_max) (record { epoch = i; end = q.rows; mark = 1 })))
+    pub clear_plan-within : clear_plan q i ≡ where_room false (leb entries_max q.entries)
+        (placed q.entries q (rows_max * areas_max) (record { epoch = i; end = q.rows; mark = 1 }))
     unfolding clear_plan
     clear_plan-within = rw t

@@ -2,7 +2,7 @@
 -- In order: what is written, a partition of a sound store, append, the end that moves, clear.
 -- Assumes nothing.
 use mathlib.Core.Path.{◌≡◌, refl, sym, ap, ◌∙◌}
-use mathlib.Core.Bool.{true, not}
+use mathlib.Core.Bool.{true, false, not}
 use mathlib.Core.List.{List, [], ◌∷◌, ◌++◌}
 use Prim.Native.Nat.{ℕ, zero, suc, ◌+◌, ◌-◌, ◌*◌, ◌≤◌, ◌<◌}
 use native.Mathlib.Omega.{arith}
@@ -27,11 +27,9 @@ use Rattle.laws.proofs.Laws.SpansTest.{entries-ok}
 use Rattle.laws.proofs.Laws.WellFormed.{StoreOk}
 use Rattle.lent.specs.Entries.{none, moved_end}
 use Rattle.partition.specs.Rows.{put_rows}
-use Rattle.std.specs.Prelude.{cond, Ok, Err}
-use Rattle.partition.specs.declared.Full.TheVariants.{Rows, Entries}
 use Rattle.partition.specs.Append.{in_range, stays, grows, last_of, kept_in, append_at, append_plan}
 use Rattle.partition.specs.Append.{clear_plan}
-use Rattle.partition.specs.Append.{placed, written_by}
+use Rattle.partition.specs.Append.{where_room, placed, written_by}
 use Rattle.partition.specs.declared.Plan.{Plan}
 use Rattle.partition.proofs.Laws.Rows.{put_rows-fits, put_rows-none}
 use Rattle.partition.proofs.Laws.Plan.{Within, in_range-within, append_plan-none}
@@ -136,8 +134,8 @@ module _ (st : Store) (ok : StoreOk st) (p : ℕ) (h : p < partitions_max) (i : 
 
   -- where there is none: 01's 8 and 9
   pub append-decided : (batch : List ℕ) → append_plan last (partition_at p st) i (length batch)
-      ≡ cond (ltb (rows_max - (partition_at p st).rows) (length batch)) (Err Rows)
-      (cond (ltb entries_max (length (appended i batch (spans_at p st)))) (Err Entries) (Ok (append_of batch)))
+      ≡ where_room (ltb (rows_max - (partition_at p st).rows) (length batch))
+      (ltb entries_max (length (appended i batch (spans_at p st)))) (append_of batch)
   unfolding appended append_at
   append-decided [] = let q = partition_at p st in let k = ok.partition p h in let g = k.spans-ok.entries_fit in
       rw (
@@ -257,7 +255,7 @@ module _ (st : Store) (ok : StoreOk st) (p : ℕ) (h : p < partitions_max) (i : 
 
   -- where there is none: 01's 9
   pub clear-decided : clear_plan (partition_at p st) i
-      ≡ cond (leb entries_max (partition_at p st).entries) (Err Entries) (Ok clear_of)
+      ≡ where_room false (leb entries_max (partition_at p st).entries) clear_of
   clear-decided = clear_plan-within (partition_at p st) i (tests st ok p h)
 
   -- one entry goes behind the partition's entries

@@ -153,13 +153,14 @@ module _ (w : Save) (rows out : List ℕ) (c : Checkpoint) (own : ℕ → List �
   written = let r = room-for in let h = length-header c eight in
       let l = length_over 0 (header_of c) out (omega arith) in
       let x : Put = put_to header_size (over 0 (header_of c) out) in
-      ap (λ o. (lots_put w.bases w.at rows (put_to header_size o) partitions_max).out) header-put
+      rw (ne_eqb w.size 0 (λ e. omega arith))
+      (ap (λ o. (lots_put w.bases w.at rows (put_to header_size o) partitions_max).out) header-put
       ∙ rw (
         all-put w.bases w.at rows own x there lent well holds (omega arith),
         bodies,
         encoded-parts c,
       )
-      (sym front)
+      (sym front))
     where
       front : header_of c ++ bodies_of c ++ drop (length (header_of c ++ bodies_of c)) out
           ≡ over header_size (bodies_of c) (over 0 (header_of c) out)

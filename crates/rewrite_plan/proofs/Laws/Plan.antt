@@ -49,14 +49,14 @@ length-purge l all (s ∷ ss) = ap suc (length-purge l all ss)
 
 -- ---- the epoch at an index
 
-roll-at : (i m : ℕ) (es : List Entry) (k : ℕ) → k < length es
+pub roll-at : (i m : ℕ) (es : List Entry) (k : ℕ) → k < length es
     → get_or (roll_epochs i (bare m es)) k 0 ≡ roll_epoch i (bare_span 0 (get_or es k none))
 unfolding bare roll_epochs
 roll-at i m [] k h = absurd (omega arith)
 roll-at i m (e ∷ es) zero h = refl
 roll-at i m (e ∷ es) (suc k) h = roll-at i e.end es k (omega arith)
 
-purge-at : (l : ℕ) (all : List Span) (m : ℕ) (es : List Entry) (k : ℕ) → k < length es
+pub purge-at : (l : ℕ) (all : List Span) (m : ℕ) (es : List Entry) (k : ℕ) → k < length es
     → get_or (purge_epochs l all (bare m es)) k 0
     ≡ purge_epoch l (hidden (up_to l) all (drop k (bare m es)) (get_or es k none).epoch)
     (bare_span 0 (get_or es k none))
@@ -67,7 +67,7 @@ purge-at l all m (e ∷ es) (suc k) h = purge-at l all e.end es k (omega arith)
 
 -- ---- rows hidden by the greatest delete
 
-purge-top : (l : ℕ) (es : List Entry) (k : ℕ) → k < length es
+pub purge-top : (l : ℕ) (es : List Entry) (k : ℕ) → k < length es
     → let all = bare 0 es in let e = get_or es k none in
     get_or (purge_epochs l all all) k 0
     ≡ purge_epoch l (covers (top_delete (up_to l) all) k e.epoch) (bare_span 0 e)
@@ -78,7 +78,7 @@ purge-top l es k h = purge-at l (bare 0 es) 0 es k h
 -- ---- a plan of entries that fit in an area, place by place
 
 module _ (es : List Entry) (few : length es ≤ entries_max) where
-  plan-next : (ps : List ℕ) → length ps ≡ length (bare 0 es) → (k v : ℕ) → k < length es → get_or ps k 0 ≡ v
+  pub plan-next : (ps : List ℕ) → length ps ≡ length (bare 0 es) → (k v : ℕ) → k < length es → get_or ps k 0 ≡ v
       → set (pad entries_max 0 (take k ps)) k v ≡ pad entries_max 0 (take (k + 1) ps)
   plan-next ps each k v h e = let n = length-bare 0 es in
       rw (← e) (pad-next entries_max 0 0 ps k (omega arith) (omega arith))

@@ -120,7 +120,7 @@ module _ (bs : List ℕ) where
 
 -- ---- the numbers written
 
-put-blank : (k v : ℕ) (bs l : List ℕ) → k + suc (later_in (32 ∷ bs)) ≤ length l
+pub put-blank : (k v : ℕ) (bs l : List ℕ) → k + suc (later_in (32 ∷ bs)) ≤ length l
     → over k (values_from v (32 ∷ bs)) l ≡ over (k + 1) (values_from 0 bs) (set l k v)
 put-blank k v bs l h = ap (λ (ns : List ℕ). over k ns l) (values-blank v bs)
     ∙ over-cons k v (values_from 0 bs) l (omega (arith, later-blank bs, length-values 0 bs))

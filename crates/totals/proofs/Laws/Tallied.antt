@@ -56,7 +56,7 @@ rows_most : (rs : List ℕ) (base a b : ℕ) → weight (rows_from rs base a b) 
 rows_most rs base a b = let m = weight_most (rows_from rs base a b) in
     let l = length-take (b - a) (drop (base + a) rs) in omega arith
 
-weighed-rows : (rs : List ℕ) (base a b : ℕ) → a ≤ b → b ≤ rows_max → base + b ≤ length rs
+pub weighed-rows : (rs : List ℕ) (base a b : ℕ) → a ≤ b → b ≤ rows_max → base + b ≤ length rs
     → weighed rs base a b ≡ weight (rows_from rs base a b)
 unfolding weighed
 weighed-rows rs base a b h k l = rw (le-leb a b h, le-leb b rows_max k, le-leb (base + b) (length rs) l)

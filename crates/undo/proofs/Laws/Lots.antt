@@ -29,7 +29,7 @@ use Rattle.undo.proofs.Laws.Rolled.{as_rolled, kept-is, rolled-step, rows_step}
 
 -- ---- nothing written
 
-lots-none : (i k : ℕ) (s : Rolling) → rolling_below false i k s ≡ s
+pub lots-none : (i k : ℕ) (s : Rolling) → rolling_below false i k s ≡ s
 unfolding rolling_below rolling_at lot_of
 lots-none i zero s = refl
 lots-none i (suc k) s = lots-none i k s
@@ -89,7 +89,7 @@ module _ (st : Store) (ok : StoreOk st) (p : ℕ) (h : p < partitions_max) (i : 
 
 -- ---- the partitions below k, and all
 
-lots-below : (i k : ℕ) (st : Store) → StoreOk st → k ≤ partitions_max
+pub lots-below : (i k : ℕ) (st : Store) → StoreOk st → k ≤ partitions_max
     → rolling_below true i k (as_rolling st) ≡ as_rolling (rolled_back_below i k st)
 unfolding rolling_below rolled_back_below
 lots-below i zero st ok h = refl
